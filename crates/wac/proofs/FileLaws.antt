@@ -2,14 +2,20 @@
 use mathlib.Core.Path.{_≡_, sym, ap, _∙_}
 use mathlib.Core.Bool.{Bool, true, false, not}
 use mathlib.Core.List.{List, [], _∷_}
+use mathlib.Core.Logic.{_↔_}
 use Prim.Native.Nat.{ℕ, _<_, _≤_}
-use borrow.Author.Tests.{lt-ltb, le-ltb, ltb-false, eqb-true}
+use native.Mathlib.Nat.{le-of-eq}
+use native.Mathlib.Omega.{arith}
+use borrow.Author.Tests.{lt-ltb, le-ltb, eq-eqb, ltb-false, eqb-true}
 use lib.ListN.{length}
+use Rattle.wac.specs.Limits.{headerBytes}
+use Rattle.wac.specs.Bytes.{AreBytes}
 use Rattle.wac.specs.Answers.{gives, refuses, firstOf}
 use Rattle.wac.specs.Ranges.{recordOk}
-use Rattle.wac.specs.File.{frameCases, fileCases, countOf, recordAt, lowestBad, Framed}
+use Rattle.wac.specs.File.{frameCases, fileCases, countOf, placeOf, recordAt, certAt, lowestBad, Framed, LawfulFile}
 use Rattle.wac.proofs.Cases.{first-none, first-holds, first-fails, first-passed, first-refused, first-given, first-both, gives-injective}
-use Rattle.wac.proofs.Tests.{not-not, lowest-passed}
+use Rattle.wac.proofs.Tests.{not-not, lowest-none, lowest-passed}
+use Rattle.wac.proofs.RecordLaws.{drop-bytes, bytes-dated, kept-lawful, lawful-kept}
 
 module _ (s : List ℕ) where
   -- a frame that is accepted is in order, and its count is given
@@ -66,3 +72,31 @@ module _ (s : List ℕ) where
         gives-injective (sym (first-none _) ∙ last .1),
         λ i l. not-not _ (lowest-passed (countOf s) _ (ltb-false _ _ (last .0)) i l),
       )
+
+  -- a frame in order is accepted with its count
+  pub framed-accepted : Framed s → firstOf (frameCases s) (countOf s) ≡ gives (countOf s)
+  unfolding frameCases
+  framed-accepted framed =
+      let sized = framed .sized in
+      let long : headerBytes ≤ length s = omega arith in
+      first-fails _ _ _ (le-ltb _ _ long)
+      ∙ first-fails _ _ _ (ap not (framed .mark))
+      ∙ first-fails _ _ _ (ap not (eq-eqb _ _ (framed .versioned)))
+      ∙ first-fails _ _ _ (le-ltb _ _ (framed .few))
+      ∙ first-fails _ _ _ (ap not (eq-eqb _ _ sized))
+      ∙ first-none _
+
+  -- `check` accepts exactly the lawful files, with their count
+  pub accepted-iff-lawful : AreBytes s → (n : ℕ) → (firstOf (fileCases s) (countOf s) ≡ gives n) ↔ (LawfulFile s × (countOf s ≡ n))
+  unfolding lowestBad certAt
+  accepted-iff-lawful bytes n = (to, back)
+    where
+      to : firstOf (fileCases s) (countOf s) ≡ gives n → LawfulFile s × (countOf s ≡ n)
+      to e =
+          let kept = file-kept e in
+          (record { framed = kept .0; lawful = λ i l. kept-lawful (recordAt s i) (bytes-dated (recordAt s i) (drop-bytes s (placeOf i) bytes)) (kept .2 i l) }, kept .1)
+
+      back : LawfulFile s × (countOf s ≡ n) → firstOf (fileCases s) (countOf s) ≡ gives n
+      back h =
+          let none = lowest-none (countOf s) (λ i. not (recordOk (recordAt s i))) (λ i l. ap not (lawful-kept (recordAt s i) (h .0 .lawful i l))) in
+          file-accepted (framed-accepted (h .0 .framed)) (le-of-eq (sym none)) ∙ ap gives (h .1)

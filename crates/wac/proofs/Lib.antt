@@ -5,3 +5,6 @@ pub mod RecordLaws
 pub mod FileLaws
 pub mod WriterLaws
 pub mod ViewLaws
+pub mod RoundTrip
+pub mod Appending
+pub mod Unique

@@ -1,23 +1,35 @@
 -- Laws of a record's bytes: the certificate that they hold, the table that they keep to, and the round trip.
-use mathlib.Core.Path.{_≡_, refl, sym, ap, _∙_}
+use mathlib.Core.Path.{_≡_, refl, sym, ap, _∙_, subst}
 use mathlib.Core.Logic.{_⊎_, inl, inr, ⊎-elim, _↔_}
 use mathlib.Core.Bool.{Bool, true, false, cond}
-use mathlib.Core.List.{List, [], _∷_, _++_}
+use mathlib.Core.List.{List, [], _++_, append-nil}
 use Prim.Native.Nat.{ℕ, zero, suc, _+_, _*_, _/_, _%_, _<_, _≤_}
 use native.Mathlib.Decide.{decLe}
 use native.Mathlib.Nat.{add-zero, div-div-eq-div-mul, div-add-mod', mod-eq-of-lt, le-of-suc-le-suc, not-suc-le-zero}
 use native.Mathlib.Omega.{arith}
 use borrow.Author.Tests.{lt-ltb, le-ltb, le-leb, lt-leb, eq-eqb, ne-eqb, leb-true, eqb-true, eqb-false}
 use lib.Dec.{eqb, leb}
-use lib.ListN.{length, getD, take, drop}
-use lib.Seq.{getD-drop}
+use lib.ListN.{getD, take, drop, length-take, List·getD-eq-default}
+use lib.Seq.{getD-drop, getD-take}
 use Rattle.wac.specs.Limits.{recordBytes, withoutEnd, unused, authorizationKind}
 use Rattle.wac.specs.Bytes.{AreBytes, word, wordBytes}
 use Rattle.wac.specs.Ranges.{aKey, anIdentifier, _to_, names, authorizations, ranged, rowOf, rangeAt, inRange, spare, byteOk, allBelow, recordOk}
-use Rattle.wac.specs.Record.{certFrom, bytesOf, IsName, IsAuthorization, IdOk, Lawful}
+use Rattle.wac.specs.Record.{certFrom, bytesOf, IsName, IsAuthorization, IdOk, Dated, Lawful}
 use Rattle.wac.specs.declared.record.Range.{Range}
 use Rattle.wac.specs.declared.cert.Cert.{Cert}
 use Rattle.wac.proofs.Tests.{and-both, and-true, false-and, and-false, allBelow-true, allBelow-at}
+
+-- the bytes from a place on are bytes
+pub drop-bytes : (s : List ℕ) (at : ℕ) → AreBytes s → AreBytes (drop at s)
+drop-bytes s at h i = rw (getD-drop at s i 0) (h _)
+
+-- the first bytes of bytes are bytes
+pub take-bytes : (s : List ℕ) (n : ℕ) → AreBytes s → AreBytes (take n s)
+take-bytes s n h i = turn (decLe n i)
+  where
+    turn : Dec (n ≤ i) → getD (take n s) i 0 < 256
+    turn (yes l) = rw (List·getD-eq-default (take n s) 0 {n = i} (omega (arith, length-take n s))) (omega arith)
+    turn (no l) = rw (getD-take n s i 0 (omega arith)) (h i)
 
 -- the certificate of the record that begins at `at`, read where it stands
 pub cert-where : (s : List ℕ) (at : ℕ) → certFrom (drop at s) ≡ record {
@@ -86,9 +98,9 @@ module _ (s : List ℕ) where
       past = λ p. eqb-true _ _ (sym (spared (5 + k) (omega arith) (omega arith)) ∙ byte-holds (5 + k) (omega arith));
     }
 
-    lawful-row : row < 2 → AreBytes s → IsName (certFrom s) ⊎ IsAuthorization (certFrom s) → Lawful (certFrom s)
+    lawful-row : row < 2 → Dated (certFrom s) → IsName (certFrom s) ⊎ IsAuthorization (certFrom s) → Lawful (certFrom s)
     unfolding certFrom
-    lawful-row two bytes sort =
+    lawful-row two dated sort =
         let both = alike row two in
         let issuer = rw (both .issuer) at (lies 1 (omega arith) (inl (omega arith))) in
         let subject = rw (both .subject) at (lies 3 (omega arith) (inl (omega arith))) in
@@ -101,14 +113,13 @@ module _ (s : List ℕ) where
           first = id-lies 0 (omega arith) (both .first);
           second = id-lies 1 (omega arith) (both .second);
           third = id-lies 2 (omega arith) (both .third);
-          begins = omega (arith, bytes 10, bytes 11, bytes 12, bytes 13);
-          ends = omega (arith, bytes 14, bytes 15, bytes 16, bytes 17);
+          dated = dated;
         }
 
   -- a record that keeps to the table holds a lawful certificate
-  pub kept-lawful : AreBytes s → recordOk s ≡ true → Lawful (certFrom s)
+  pub kept-lawful : Dated (certFrom s) → recordOk s ≡ true → Lawful (certFrom s)
   unfolding certFrom rangeAt names authorizations
-  kept-lawful bytes ok = turn (eqb (getD s 0 0) authorizationKind) refl
+  kept-lawful dated ok = turn (eqb (getD s 0 0) authorizationKind) refl
     where
       mark-of : (m : ℕ) → 10 ≤ m → m ≤ 11 → Dec (m ≤ 10) → (m ≡ 10) ⊎ (m ≡ 11)
       mark-of m l h (yes d) = inl (omega arith)
@@ -120,7 +131,7 @@ module _ (s : List ℕ) where
           let left = lies ok 1 row 2 (omega arith) (inl (omega arith)) in
           let mark = lies ok 1 row 8 (omega arith) (inr (omega arith)) in
           let rights = lies ok 1 row 9 (omega arith) (inr (omega arith)) in
-          lawful-row ok 1 row (omega arith) bytes
+          lawful-row ok 1 row (omega arith) dated
           (inr (record {
             kind = eqb-true _ _ e;
             left = omega arith;
@@ -133,7 +144,7 @@ module _ (s : List ℕ) where
           let left = lies ok 0 row 2 (omega arith) (inl (omega arith)) in
           let mark = lies ok 0 row 8 (omega arith) (inr (omega arith)) in
           let rights = lies ok 0 row 9 (omega arith) (inr (omega arith)) in
-          lawful-row ok 0 row (omega arith) bytes (inl (record { kind = omega arith; left = omega arith; mark = omega arith; rights = omega arith }))
+          lawful-row ok 0 row (omega arith) dated (inl (record { kind = omega arith; left = omega arith; mark = omega arith; rights = omega arith }))
 
   module _ (lawful : Lawful (certFrom s)) (row : ℕ) (same : rowOf (getD s 0 0) ≡ row) where
     -- a byte that lies in its range is as the table says
@@ -200,15 +211,28 @@ word-read w h =
     rw (high, highest, mod-eq-of-lt (top-digit _ _ _ _ _ _ _ e f g h)) (by-digits _ _ _ _ _ _ _ e f g)
 
 -- the four bytes of the number in four bytes
-word-written : (a b c d : ℕ) → a < 256 → b < 256 → c < 256 → d < 256 → wordBytes (word a b c d) ≡ a ∷ b ∷ c ∷ d ∷ []
-word-written a b c d ha hb hc hd =
-    let p : (a * 16777216 + b * 65536 + c * 256 + d) / 16777216 % 256 ≡ a = omega arith in
-    let q : (a * 16777216 + b * 65536 + c * 256 + d) / 65536 % 256 ≡ b = omega arith in
-    let r : (a * 16777216 + b * 65536 + c * 256 + d) / 256 % 256 ≡ c = omega arith in
-    let t : (a * 16777216 + b * 65536 + c * 256 + d) % 256 ≡ d = omega arith in
-    rw (p, q, r, t)
+pub word-written : (a b c d : ℕ) → a < 256 → b < 256 → c < 256 → d < 256 →
+    (word a b c d / 16777216 % 256 ≡ a) × (word a b c d / 65536 % 256 ≡ b) × (word a b c d / 256 % 256 ≡ c) × (word a b c d % 256 ≡ d)
+word-written a b c d ha hb hc hd = (omega arith, omega arith, omega arith, omega arith)
 
--- a lawful certificate, written and read, whatever follows it, is itself
-pub read-back : (c : Cert) → Lawful c → (rest : List ℕ) → certFrom (bytesOf c ++ rest) ≡ c
+-- a certificate, written and read, whatever follows it, is itself
+pub read-back : (c : Cert) → Dated c → (rest : List ℕ) → certFrom (bytesOf c ++ rest) ≡ c
 unfolding certFrom bytesOf
 read-back c h rest = rw (word-read (c .«not_before») (h .begins), word-read (c .«not_after») (h .ends))
+
+-- the dates of bytes are minutes
+pub bytes-dated : (s : List ℕ) → AreBytes s → Dated (certFrom s)
+unfolding certFrom
+bytes-dated s bytes = record {
+  begins = omega (arith, bytes 10, bytes 11, bytes 12, bytes 13);
+  ends = omega (arith, bytes 14, bytes 15, bytes 16, bytes 17);
+}
+
+-- the record of a certificate keeps to the table exactly if the certificate is lawful
+pub kept-iff-lawful : (c : Cert) → Dated c → (recordOk (bytesOf c) ≡ true) ↔ Lawful c
+kept-iff-lawful c dated =
+    let same : certFrom (bytesOf c) ≡ c = ap certFrom (sym (append-nil (bytesOf c))) ∙ read-back c dated [] in
+    (
+      λ ok. subst Lawful same (kept-lawful (bytesOf c) (subst Dated (sym same) dated) ok),
+      λ lawful. lawful-kept (bytesOf c) (subst Lawful (sym same) lawful),
+    )

@@ -1,9 +1,7 @@
 -- Laws of reading a certificate by its number.
 use mathlib.Core.Path.{_≡_, sym, ap, _∙_, subst}
 use mathlib.Core.List.{List}
-use Prim.Native.Nat.{ℕ, _<_}
-use lib.ListN.{getD, drop}
-use lib.Seq.{getD-drop}
+use Prim.Native.Nat.{ℕ}
 use Rattle.wac.specs.Bytes.{AreBytes}
 use Rattle.wac.specs.Answers.{gives, refuses, firstOf}
 use Rattle.wac.specs.Record.{Lawful}
@@ -15,11 +13,7 @@ use Rattle.wac.specs.declared.view.Fetched.the-variants.{Certificate, Re
 use Rattle.wac.proofs.Cases.{first-none, first-passed, first-refused, first-given, first-both, gives-injective}
 use Rattle.wac.proofs.Tests.{not-not}
 use Rattle.wac.proofs.FileLaws.{frame-accepted}
-use Rattle.wac.proofs.RecordLaws.{kept-lawful}
-
--- the bytes from a place on are bytes
-pub drop-bytes : (s : List ℕ) (at : ℕ) → AreBytes s → AreBytes (drop at s)
-drop-bytes s at h i = rw (getD-drop at s i 0) (h _)
+use Rattle.wac.proofs.RecordLaws.{drop-bytes, bytes-dated, kept-lawful}
 
 module _ (s : List ℕ) (n : ℕ) where
   -- a file whose frame is refused is refused alike
@@ -43,4 +37,4 @@ module _ (s : List ℕ) (n : ℕ) where
       let number = first-passed _ _ _ (both .1) in
       let kept = first-passed _ _ _ (number .1) in
       subst Lawful (gives-injective (sym (first-none _) ∙ kept .1))
-      (kept-lawful (recordAt s n) (drop-bytes s (placeOf n) bytes) (not-not _ (kept .0)))
+      (kept-lawful (recordAt s n) (bytes-dated (recordAt s n) (drop-bytes s (placeOf n) bytes)) (not-not _ (kept .0)))

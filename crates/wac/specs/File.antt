@@ -66,6 +66,29 @@ abbrev pub checked : Checked → Answer ℕ
 checked (Accepted n) = gives n
 checked (Refused why) = refused why
 
+-- f 0, f 1, .. f (n - 1)
+unfoldable pub listed : {A : Type 0} → ℕ → (ℕ → A) → List A
+listed zero f = []
+listed (suc n) f = f zero ∷ listed n (λ k. f (suc k))
+
+-- the certificates of a file, in file order
+unfoldable pub certsOf : List ℕ → List Cert
+certsOf s = listed (countOf s) (certAt s)
+
+-- certificates one after another, 18 bytes each
+unfoldable pub recordsOf : List Cert → List ℕ
+recordsOf [] = []
+recordsOf (c ∷ cs) = bytesOf c ++ recordsOf cs
+
+-- the file of a list of certificates: the mark, the version, the count, the certificates, nothing after
+unfoldable pub fileOf : List Cert → List ℕ
+fileOf cs = 87 ∷ 65 ∷ 67 ∷ 0 ∷ version ∷ length cs ∷ recordsOf cs
+
+-- every certificate of a list is lawful
+abbrev pub AllLawful : List Cert → Type 0
+AllLawful [] = Unit {0}
+AllLawful (c ∷ cs) = Lawful c × AllLawful cs
+
 -- the frame of a file: its mark, its version, its count, and as many bytes as the count says
 pub record Framed (s : List ℕ) : Type 0 where
   pub mark : isWac s ≡ true

@@ -53,7 +53,12 @@ pub record IdOk (c : Cert) (i id : ℕ) : Type 0 where
   pub used : i < c .count → id < identifiers
   pub past : c .count ≤ i → id ≡ unused
 
--- a lawful certificate: every number is permitted. The dates are any minutes
+-- the dates are minutes, any unsigned 32-bit numbers
+pub record Dated (c : Cert) : Type 0 where
+  pub begins : c .«not_before» ≤ withoutEnd
+  pub ends : c .«not_after» ≤ withoutEnd
+
+-- a lawful certificate: every number is permitted
 pub record Lawful (c : Cert) : Type 0 where
   pub sort : IsName c ⊎ IsAuthorization c
   pub issuer : c .issuer < keys
@@ -62,5 +67,4 @@ pub record Lawful (c : Cert) : Type 0 where
   pub first : IdOk c 0 (c .ids .0)
   pub second : IdOk c 1 (c .ids .1)
   pub third : IdOk c 2 (c .ids .2)
-  pub begins : c .«not_before» ≤ withoutEnd
-  pub ends : c .«not_after» ≤ withoutEnd
+  pub dated : Dated c
