@@ -47,8 +47,7 @@ module _ (b : List ℕ) (bytes : AreBytes b) (used : ℕ) (c : Cert) (dated : Da
       let new : Lawful c = kept-iff-lawful c dated .0 (ok .kept) in
       let all = all-append (certsOf (take used b)) (c ∷ []) (certs-lawful (take used b) lawful-before) (new, tt) in
       let few : length (certsOf (take used b) ++ (c ∷ [])) ≤ certificates =
-          rw (length-append (certsOf (take used b)) (c ∷ [])) (omega (arith, length-certs (take used b), ok .count, ok .notFull)) in
-      (
+      rw (length-append (certsOf (take used b)) (c ∷ [])) (omega (arith, length-certs (take used b), ok .count, ok .notFull)) in (
         subst LawfulFile (sym append-file) (file-of-lawful (certsOf (take used b) ++ (c ∷ [])) all few),
         ap certsOf append-file ∙ file-read-back (certsOf (take used b) ++ (c ∷ [])) all,
       )

@@ -5,7 +5,7 @@ use mathlib.Core.Bool.{Bool, true, false, cond}
 use mathlib.Core.List.{List, [], _++_, append-nil}
 use Prim.Native.Nat.{ℕ, zero, suc, _+_, _*_, _/_, _%_, _<_, _≤_}
 use native.Mathlib.Decide.{decLe}
-use native.Mathlib.Nat.{add-zero, div-div-eq-div-mul, div-add-mod', mod-eq-of-lt, le-of-suc-le-suc, not-suc-le-zero}
+use native.Mathlib.Nat.{add-zero, add-assoc, div-div-eq-div-mul, div-add-mod', mod-eq-of-lt, le-of-suc-le-suc, not-suc-le-zero}
 use native.Mathlib.Omega.{arith}
 use borrow.Author.Tests.{lt-ltb, le-ltb, le-leb, lt-leb, eq-eqb, ne-eqb, leb-true, eqb-true, eqb-false}
 use lib.Dec.{eqb, leb}
@@ -14,7 +14,7 @@ use lib.Seq.{getD-drop, getD-take}
 use Rattle.wac.specs.Limits.{recordBytes, withoutEnd, unused, authorizationKind}
 use Rattle.wac.specs.Bytes.{AreBytes, word, wordBytes}
 use Rattle.wac.specs.Ranges.{aKey, anIdentifier, _to_, names, authorizations, ranged, rowOf, rangeAt, inRange, spare, byteOk, allBelow, recordOk}
-use Rattle.wac.specs.Record.{certFrom, bytesOf, IsName, IsAuthorization, IdOk, Dated, Lawful}
+use Rattle.wac.specs.Record.{wordAt, certFrom, bytesOf, IsName, IsAuthorization, IdOk, Dated, Lawful}
 use Rattle.wac.specs.declared.record.Range.{Range}
 use Rattle.wac.specs.declared.cert.Cert.{Cert}
 use Rattle.wac.proofs.Tests.{and-both, and-true, false-and, and-false, allBelow-true, allBelow-at}
@@ -41,11 +41,11 @@ pub cert-where : (s : List ℕ) (at : ℕ) → certFrom (drop at s) ≡ record {
   ids = record { 0 = getD s (at + 5) 0; 1 = getD s (at + 6) 0; 2 = getD s (at + 7) 0 };
   mark = getD s (at + 8) 0;
   rights = getD s (at + 9) 0;
-  «not_before» = word (getD s (at + 10) 0) (getD s (at + 11) 0) (getD s (at + 12) 0) (getD s (at + 13) 0);
-  «not_after» = word (getD s (at + 14) 0) (getD s (at + 15) 0) (getD s (at + 16) 0) (getD s (at + 17) 0);
+  «not_before» = wordAt s (at + 10);
+  «not_after» = wordAt s (at + 14);
 }
 unfolding certFrom
-cert-where s at = simp (getD-drop, add-zero)
+cert-where s at = simp (getD-drop, add-zero, add-assoc)
 
 -- a number in a range
 in-range : (r : Range) (b : ℕ) → inRange r b ≡ true → (r .least ≤ b) × (b ≤ r .greatest)
@@ -231,8 +231,7 @@ bytes-dated s bytes = record {
 -- the record of a certificate keeps to the table exactly if the certificate is lawful
 pub kept-iff-lawful : (c : Cert) → Dated c → (recordOk (bytesOf c) ≡ true) ↔ Lawful c
 kept-iff-lawful c dated =
-    let same : certFrom (bytesOf c) ≡ c = ap certFrom (sym (append-nil (bytesOf c))) ∙ read-back c dated [] in
-    (
+    let same : certFrom (bytesOf c) ≡ c = ap certFrom (sym (append-nil (bytesOf c))) ∙ read-back c dated [] in (
       λ ok. subst Lawful same (kept-lawful (bytesOf c) (subst Dated (sym same) dated) ok),
       λ lawful. lawful-kept (bytesOf c) (subst Lawful (sym same) lawful),
     )

@@ -57,7 +57,7 @@ records-written (suc n) t bytes e =
     let long : recordBytes ≤ length t = omega arith in
     let size : length (drop recordBytes t) ≡ recordBytes * n = length-drop recordBytes t ∙ omega arith in
     let next : listed n (λ k. certFrom (drop (recordBytes * suc k) t)) ≡ listed n (λ k. certFrom (drop (recordBytes * k) (drop recordBytes t))) =
-        listed-same n _ _ (λ k. ap certFrom (later k)) in
+    listed-same n _ _ (λ k. ap certFrom (later k)) in
     rw (next, written-back t bytes long, records-written n (drop recordBytes t) (drop-bytes t recordBytes bytes) size) (take-append-drop recordBytes t)
   where
     later : (k : ℕ) → drop (recordBytes * suc k) t ≡ drop (recordBytes * k) (drop recordBytes t)
@@ -91,7 +91,7 @@ file-written-back s bytes framed =
     let body = records-written (countOf s) (drop headerBytes s) (drop-bytes s headerBytes bytes) size in
     ap (λ cs. 87 ∷ 65 ∷ 67 ∷ 0 ∷ 1 ∷ length cs ∷ recordsOf cs) (certs-after s)
     ∙ rw (body, length-listed (countOf s) (λ i. certFrom (drop (recordBytes * i) (drop headerBytes s))))
-      (ap (λ h. h ++ drop headerBytes s) (sym head) ∙ take-append-drop headerBytes s)
+    (ap (λ h. h ++ drop headerBytes s) (sym head) ∙ take-append-drop headerBytes s)
 
 -- lawful certificates, written one after another and read, are themselves
 records-read : (cs : List Cert) → AllLawful cs → listed (length cs) (λ i. certFrom (drop (recordBytes * i) (recordsOf cs))) ≡ cs

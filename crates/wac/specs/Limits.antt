@@ -1,4 +1,5 @@
 -- The numbers that are fixed: document 01, "Numbers that are fixed", and what follows from them. They stand here once; the code's are the associated constants of `Table`.
+use mathlib.Core.List.{List, [], _∷_}
 use Prim.Native.Nat.{ℕ, _+_, _*_}
 
 -- keys are 0 to 15
@@ -76,3 +77,9 @@ recordBytes = 18
 -- the bytes of the largest file
 abbrev pub largestFile : ℕ
 largestFile = headerBytes + recordBytes * certificates
+
+-- the numbers, in the order in which they stand above
+abbrev pub limits : List ℕ
+limits =
+    keys ∷ identifiers ∷ delegate ∷ access ∷ subjectIds ∷ certificates ∷ chainPlaces ∷ allRights ∷ withoutEnd ∷ unused
+    ∷ version ∷ nameKind ∷ authorizationKind ∷ endPlace ∷ namedEntries ∷ entries ∷ headerBytes ∷ recordBytes ∷ largestFile ∷ []

@@ -6,7 +6,7 @@ ghost use Prim.Native.Nat.{_+_, _≤_};
 ghost use lib.ListN.{length, drop};
 ghost use lib.Seq.{paste};
 ghost use Rattle.wac.specs.Limits.{recordBytes};
-ghost use Rattle.wac.specs.Record.{certFrom, bytesOf};
+ghost use Rattle.wac.specs.Record.{wordAt, certFrom, bytesOf};
 
 // The three identifier bytes of a subject.
 pub struct Ids(pub u8, pub u8, pub u8);
@@ -25,14 +25,22 @@ pub struct Cert {
     pub not_after: u32,
 }
 
+// The four bytes from `at` on as one number.
+fn word_at(file: &[u8], at: usize) -> u32
+    requires { ⌜ at + 4 ≤ length (now file) ⌝ }
+    ensures { λ r. ⌜ r ≡ wordAt (now (file .entry)) at ⌝ }
+{
+    bytes::word_of(file[at], file[at + 1], file[at + 2], file[at + 3])
+}
+
 // The certificate whose record begins at `at`.
 pub fn cert_at(file: &[u8], at: usize) -> Cert
     requires { ⌜ at + recordBytes ≤ length (now file) ⌝ }
     ensures { λ r. ⌜ r ≡ certFrom (drop at (now (file .entry))) ⌝ }
 {
     let ids = Ids(file[at + 5], file[at + 6], file[at + 7]);
-    let begins = bytes::word_of(file[at + 10], file[at + 11], file[at + 12], file[at + 13]);
-    let ends = bytes::word_of(file[at + 14], file[at + 15], file[at + 16], file[at + 17]);
+    let begins = word_at(file, at + 10);
+    let ends = word_at(file, at + 14);
     Cert {
         kind: file[at],
         issuer: file[at + 1],
@@ -48,7 +56,7 @@ pub fn cert_at(file: &[u8], at: usize) -> Cert
 }
 
 // The 18 bytes of a certificate.
-pub fn bytes_of(cert: Cert) -> [u8; 18]
+pub fn bytes_of(cert: Cert) -> [u8; Table::RECORD]
     ensures { λ r. ⌜ r ≡ bytesOf cert ⌝ }
 {
     let ids = cert.ids;
@@ -77,7 +85,7 @@ pub fn bytes_of(cert: Cert) -> [u8; 18]
 }
 
 // Writes the 18 bytes of a record at `at`, and no others.
-pub fn write_at(buffer: &mut [u8], at: usize, bytes: [u8; 18])
+pub fn write_at(buffer: &mut [u8], at: usize, bytes: [u8; Table::RECORD])
     requires { ⌜ at + recordBytes ≤ length (now buffer) ⌝ }
     ensures { λ _. ⌜ now (buffer .exit) ≡ paste (now (buffer .entry)) at bytes recordBytes ⌝ }
 {

@@ -58,10 +58,11 @@ pub fn count_in(file: &[u8]) -> Checked
         return Checked::Refused(Refusal::Version);
     }
     let count = file[5] as usize;
+    let size = Table::HEADER + Table::RECORD * count;
     if Table::CERTIFICATES < count {
         return Checked::Refused(Refusal::TooMany);
     }
-    if file.len() != Table::HEADER + Table::RECORD * count {
+    if file.len() != size {
         return Checked::Refused(Refusal::Length);
     }
     Checked::Accepted(count)

@@ -11,7 +11,6 @@ mod refusal;
 mod view;
 mod writer;
 
-pub use bytes::half_of;
 pub use bytes::word_bytes;
 pub use bytes::word_of;
 pub use cert::Cert;

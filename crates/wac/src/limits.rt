@@ -1,27 +1,7 @@
 // The limits of the certificate table. These numbers stand here and nowhere else in the code:
 // every layer names them by these constants, and `table_limits` ties them to specs/Limits.
 ghost use mathlib.Core.Path.{_≡_};
-ghost use Rattle.wac.specs.Limits.{
-  keys,
-  identifiers,
-  delegate,
-  access,
-  subjectIds,
-  certificates,
-  chainPlaces,
-  allRights,
-  withoutEnd,
-  unused,
-  version,
-  nameKind,
-  authorizationKind,
-  endPlace,
-  namedEntries,
-  entries,
-  headerBytes,
-  recordBytes,
-  largestFile,
-};
+ghost use Rattle.wac.specs.Limits.{limits};
 
 // The certificate table: its limits are its associated constants.
 pub struct Table {}
@@ -85,25 +65,29 @@ impl Table {
     pub const LARGEST: usize = Table::HEADER + Table::RECORD * Table::CERTIFICATES;
 }
 
-// The constants are the numbers of the definitions.
-pub fn table_limits()
-    ensures { λ _. do ⌜ (← ⟦Table::KEYS⟧ .entry) ≡ keys ⌝ }
-    ensures { λ _. do ⌜ (← ⟦Table::IDENTIFIERS⟧ .entry) ≡ identifiers ⌝ }
-    ensures { λ _. do ⌜ (← ⟦Table::DELEGATE⟧ .entry) ≡ delegate ⌝ }
-    ensures { λ _. do ⌜ (← ⟦Table::ACCESS⟧ .entry) ≡ access ⌝ }
-    ensures { λ _. do ⌜ (← ⟦Table::SUBJECT_IDS⟧ .entry) ≡ subjectIds ⌝ }
-    ensures { λ _. do ⌜ (← ⟦Table::CERTIFICATES⟧ .entry) ≡ certificates ⌝ }
-    ensures { λ _. do ⌜ (← ⟦Table::CHAIN_PLACES⟧ .entry) ≡ chainPlaces ⌝ }
-    ensures { λ _. do ⌜ (← ⟦Table::ALL_RIGHTS⟧ .entry) ≡ allRights ⌝ }
-    ensures { λ _. do ⌜ (← ⟦Table::WITHOUT_END⟧ .entry) ≡ withoutEnd ⌝ }
-    ensures { λ _. do ⌜ (← ⟦Table::UNUSED⟧ .entry) ≡ unused ⌝ }
-    ensures { λ _. do ⌜ (← ⟦Table::VERSION⟧ .entry) ≡ version ⌝ }
-    ensures { λ _. do ⌜ (← ⟦Table::NAME⟧ .entry) ≡ nameKind ⌝ }
-    ensures { λ _. do ⌜ (← ⟦Table::AUTHORIZATION⟧ .entry) ≡ authorizationKind ⌝ }
-    ensures { λ _. do ⌜ (← ⟦Table::END⟧ .entry) ≡ endPlace ⌝ }
-    ensures { λ _. do ⌜ (← ⟦Table::NAMED_ENTRIES⟧ .entry) ≡ namedEntries ⌝ }
-    ensures { λ _. do ⌜ (← ⟦Table::ENTRIES⟧ .entry) ≡ entries ⌝ }
-    ensures { λ _. do ⌜ (← ⟦Table::HEADER⟧ .entry) ≡ headerBytes ⌝ }
-    ensures { λ _. do ⌜ (← ⟦Table::RECORD⟧ .entry) ≡ recordBytes ⌝ }
-    ensures { λ _. do ⌜ (← ⟦Table::LARGEST⟧ .entry) ≡ largestFile ⌝ }
-{}
+// The constants, in order.
+pub fn table_limits() -> [usize; 19]
+    ensures { λ r. ⌜ r ≡ limits ⌝ }
+{
+    [
+        Table::KEYS,
+        Table::IDENTIFIERS,
+        Table::DELEGATE,
+        Table::ACCESS,
+        Table::SUBJECT_IDS,
+        Table::CERTIFICATES,
+        Table::CHAIN_PLACES,
+        Table::ALL_RIGHTS,
+        Table::WITHOUT_END as usize,
+        Table::UNUSED,
+        Table::VERSION as usize,
+        Table::NAME,
+        Table::AUTHORIZATION,
+        Table::END,
+        Table::NAMED_ENTRIES,
+        Table::ENTRIES,
+        Table::HEADER,
+        Table::RECORD,
+        Table::LARGEST,
+    ]
+}

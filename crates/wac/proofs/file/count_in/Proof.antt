@@ -49,6 +49,12 @@ shared-slice-read-count c = search needs
 cast-count : tie.Need-cast-count
 cast-count c = omega (arith, c .shared-slice-known4 .given 5)
 
+mul-size : tie.Need-mul-size
+mul-size c = omega (arith, c .shared-slice-known4 .given 5)
+
+add-size : tie.Need-add-size
+add-size c = omega (arith, c .shared-slice-known4 .given 5)
+
 returns-4 : tie.Need-returns-4
 unfolding frameCases
 returns-4 c =
@@ -57,12 +63,6 @@ returns-4 c =
     ∙ first-fails _ _ _ (ap not (sym (c .before .before .before .before .before .before .before .marked .ensures)) ∙ c .before .before .before .before .before .before .if2 .left)
     ∙ first-fails _ _ _ (ap (λ x. not (eqb x 1)) (sym (c .before .before .before .half-of .ensures)) ∙ ap not (eq-eqb _ _ (c .before .before .if3 .left)))
     ∙ first-holds _ _ _ (lt-ltb _ _ (c .if4 .taken)))
-
-mul-if5 : tie.Need-mul-if5
-mul-if5 c = search needs
-
-add-if5 : tie.Need-add-if5
-add-if5 c = search needs
 
 returns-5 : tie.Need-returns-5
 unfolding frameCases
@@ -98,8 +98,8 @@ count-in-spec =
     returns-3
     shared-slice-read-count
     cast-count
+    mul-size
+    add-size
     returns-4
-    mul-if5
-    add-if5
     returns-5
     returns-6)

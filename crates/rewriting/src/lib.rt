@@ -1,0 +1,1 @@
+// No code here: the definitions are in specs/, the laws in proofs/.
