@@ -26,7 +26,7 @@ module _ (Q : Question) where
   K = Q .keys
 
   module _ (t : Table) (held : Held Q t) where
-    reading-fits : (q : ℕ) (w : List ℕ) (a : ℕ) → reading Q t q w a ≤ W .cap
+    pub reading-fits : (q : ℕ) (w : List ℕ) (a : ℕ) → reading Q t q w a ≤ W .cap
     unfolding reading
     reading-fits q [] a = by-test (λ x. x ≤ W .cap) (eqb q a) (λ e. W .laws .whole-fits) (λ e. W .laws .none-fits)
     reading-fits q (s ∷ w) a =

@@ -67,3 +67,9 @@ module _ {A : Type 0} where
           (cond h (refuses (c .number) (c .values)) (firstOf cases a) ≡ gives a) × (firstOf more b ≡ gives x)
       turn true next e = absurd (gives-not-refuses (sym e))
       turn false next e = next e
+
+  -- cases after the first, none of which holds, change nothing
+  pub first-alone : (cases more : List Case) (a : A) → firstOf more a ≡ gives a → firstOf (cases ++ more) a ≡ firstOf cases a
+  unfolding firstOf
+  first-alone [] more a e = e
+  first-alone (c ∷ cases) more a e = ap (cond (c .holds) (refuses (c .number) (c .values))) (first-alone cases more a e)

@@ -20,18 +20,18 @@ use Rattle.wac.specs.declared.writer.Appended.{Appended}
 use Rattle.wac.specs.declared.writer.Appended.the-variants as appends
 
 -- what has a way back is told apart by what it goes to
-told-apart : {A B : Type 0} (f : A → B) (back : B → A) → ((a : A) → back (f a) ≡ a) → (a b : A) → f a ≡ f b → a ≡ b
+pub told-apart : {A B : Type 0} (f : A → B) (back : B → A) → ((a : A) → back (f a) ≡ a) → (a b : A) → f a ≡ f b → a ≡ b
 told-apart f back same a b e = sym (same a) ∙ ap back e ∙ same b
 
 -- the refusal of a number, with the record's number where it has one
-refusal-of : ℕ → List ℕ → Refusal
+pub refusal-of : ℕ → List ℕ → Refusal
 refusal-of n vs =
     cond (eqb n 10) Short
     (cond (eqb n 11) NotWac
     (cond (eqb n 12) Version
     (cond (eqb n 13) TooMany (cond (eqb n 14) Length (cond (eqb n 15) (Against (getD vs 0 0)) (cond (eqb n 16) Room NoSuch))))))
 
-refusal-back : (why : Refusal) → refusal-of (numberOf why) (valuesOf why) ≡ why
+pub refusal-back : (why : Refusal) → refusal-of (numberOf why) (valuesOf why) ≡ why
 unfolding refusal-of
 refusal-back Short = refl
 refusal-back NotWac = refl

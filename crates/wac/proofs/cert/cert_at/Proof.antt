@@ -1,6 +1,6 @@
 -- `cert_at` meets its contract: each byte is read where the record holds it.
-use Rattle.wac.proofs.RecordLaws.{cert-where}
 use borrow.Author.Needs.{needs}
+use Rattle.wac.proofs.RecordLaws.{cert-where}
 use Rattle.wac.proofs.cert.cert_at.Statement.{statement}
 use Rattle.wac.proofs.cert.cert_at.Tie as tie
 

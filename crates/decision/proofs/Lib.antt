@@ -1,0 +1,12 @@
+-- The laws of the decision, beside the proofs of its functions.
+pub mod Choices
+pub mod RulesLaws
+pub mod EntryLaws
+pub mod TableLaws
+pub mod ReadingLaws
+pub mod PassingLaws
+pub mod SettlingLaws
+pub mod WritingLaws
+pub mod QuestionLaws
+pub mod AskLaws
+pub mod Unique
