@@ -2,7 +2,9 @@
 // passes what it is given to one public function of the crates below.
 //
 // An answer is one number: a refusal's number times 65,536 and the value that comes with it. The
-// number is 0 where the call is not refused.
+// number is 0 where the call is not refused. The decision's verdicts are wider: see `questions`.
+mod questions;
+
 use wac::Appended;
 use wac::Cert;
 use wac::Checked;

@@ -1,0 +1,3 @@
+-- The laws of the codes, beside the proofs of their functions.
+pub mod BitsLaws
+pub mod Unique
