@@ -3,6 +3,12 @@
 
 pub mod answer;
 pub mod compare;
+pub mod decision;
+#[cfg(feature = "decision")]
+pub mod plain;
 pub mod proved;
+#[cfg(feature = "decision")]
+pub mod proved_decision;
 pub mod random;
+pub mod stored;
 pub mod wac;

@@ -98,6 +98,44 @@ pub struct Certificate {
 }
 
 impl Certificate {
+    /// A name certificate from minute 1 on, without end.
+    pub fn name(issuer: u8, left: u8, subject: u8, identifiers: &[u8]) -> Certificate {
+        let mut written = [NOTHING; 3];
+        written[..identifiers.len()].copy_from_slice(identifiers);
+        Certificate {
+            kind: NAME,
+            issuer,
+            left,
+            subject,
+            length: identifiers.len() as u8,
+            identifiers: written,
+            mark: NOTHING,
+            rights: 0,
+            not_before: 1,
+            not_after: u32::MAX,
+        }
+    }
+
+    /// An authorization for every right from minute 1 on, without end.
+    pub fn authorization(issuer: u8, subject: u8, identifiers: &[u8], mark: u8) -> Certificate {
+        Certificate {
+            kind: AUTHORIZATION,
+            mark,
+            rights: 15,
+            ..Certificate::name(issuer, MAY_DELEGATE, subject, identifiers)
+        }
+    }
+
+    /// The same for these rights.
+    pub fn carrying(self, rights: u8) -> Certificate {
+        Certificate { rights, ..self }
+    }
+
+    /// The same with this not-after.
+    pub fn until(self, not_after: u32) -> Certificate {
+        Certificate { not_after, ..self }
+    }
+
     /// The certificate in these 18 bytes.
     pub fn read(record: &[u8]) -> Certificate {
         Certificate {

@@ -68,7 +68,8 @@ pub fn same_answer(second: Answer, proved: Answer, call: &str, file: &[u8]) -> R
     Err(told(call, &second, &proved, file))
 }
 
-fn told(call: &str, second: &impl Display, proved: &impl Display, file: &[u8]) -> String {
+/// Tells the call, the file and what both gave.
+pub fn told(call: &str, second: &impl Display, proved: &impl Display, file: &[u8]) -> String {
     format!(
         "{call}\n  file: {}\n  second: {second}\n  proved: {proved}",
         hex(file)

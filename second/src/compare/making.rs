@@ -90,7 +90,8 @@ pub fn file(random: &mut Random) -> Vec<u8> {
     file
 }
 
-fn damage(file: &mut Vec<u8>, random: &mut Random) {
+/// One damage of any kind.
+pub fn damage(file: &mut Vec<u8>, random: &mut Random) {
     match random.below(11) {
         0 => change_any_byte(file, random),
         1 => shorten(file, random),

@@ -2,10 +2,19 @@
 //! compared part is a module here with one function that is given the seeds
 //! and gives back a report, or says what went wrong.
 
+pub mod asking;
+pub mod classes;
 pub mod difference;
 pub mod files;
+#[cfg(feature = "decision")]
+pub mod held;
+pub mod lending;
 pub mod limits;
+pub mod long;
 pub mod making;
+#[cfg(feature = "decision")]
+pub mod questions;
+pub mod tables;
 pub mod tally;
 
 use tally::Tally;
@@ -23,4 +32,8 @@ pub struct Report {
 pub type Part = fn(&[u64]) -> Result<Report, String>;
 
 /// The parts by name, in the order they are run.
-pub const PARTS: [(&str, Part); 1] = [("files", files::compare)];
+pub const PARTS: &[(&str, Part)] = &[
+    ("files", files::compare),
+    #[cfg(feature = "decision")]
+    ("questions", questions::compare),
+];
