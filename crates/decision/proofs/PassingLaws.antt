@@ -210,16 +210,9 @@ module _ {lens : Lens} {old : List ℕ} {c : Cert} {new₀ new : List ℕ} {p : 
           (subst (λ s. getD new (number (c .issuer) s a) 0 ≡ weighingOf lens .best (getD new₀ (number (c .issuer) s a) 0) (offered lens old c a)) y
           (tr .done a (all a t′) t′))
 
--- where the entries of a left side arrive
-pub arrives-end : (k s a : ℕ) → s ≡ delegate → isEntry k s a ≡ true → a ≡ endPlace
-arrives-end k s a e t = ⊎-elim (λ n. absurd (omega (arith, n .0))) (λ m. m .1) (entry-of k s a t .1)
-
-pub arrives-key : (k s a : ℕ) → s < identifiers → isEntry k s a ≡ true → a < keys
-arrives-key k s a h t = ⊎-elim (λ n. n .1) (λ m. absurd (⊎-elim (λ (e : s ≡ 10). omega arith) (λ (e : s ≡ 11). omega arith) (m .0))) (entry-of k s a t .1)
-
--- a left side that is not the mark 10 is an identifier
-pub named-left : (c : Cert) → Lawful c → (c .left ≡ delegate → ⊥) → c .left < identifiers
-named-left c ok other = ⊎-elim (λ n. n .left) (λ m. absurd (other (m .left))) (ok .sort)
+-- a left side is a symbol
+pub left-symbol : (c : Cert) → Lawful c → c .left ≤ access
+left-symbol c ok = ⊎-elim (λ n. (let h = n .left in omega arith)) (λ m. (let e = m .left in omega arith)) (ok .sort)
 
 -- what fetching from an accepted file finds: the certificate of that number, and it is lawful
 module _ {s : List ℕ} {i : ℕ} {r : Fetched} (from : FetchedFrom s i r) where

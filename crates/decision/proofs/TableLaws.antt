@@ -20,7 +20,7 @@ use Rattle.rewriting.specs.Tables.{Held}
 use Rattle.rewriting.proofs.Tests.{by-test}
 use Rattle.rewriting.proofs.Held.{held-same}
 use Rattle.decision.specs.Lens.{weighingOf, questionBy}
-use Rattle.decision.specs.Table.{isEntry, number, keyOf, symbolOf, arrivalOf, tableOf, rowOf}
+use Rattle.decision.specs.Table.{isEntry, arrivalsOf, number, keyOf, symbolOf, arrivalOf, tableOf, rowOf}
 use Rattle.decision.specs.Engine.{Within, held}
 use Rattle.decision.specs.declared.lens.Lens.{Lens}
 
@@ -58,6 +58,25 @@ is-entry k s a e = rw (lt-ltb k keys (e .0)) (⊎-elim
     (λ n. rw (lt-ltb s identifiers (n .0)) (lt-ltb a keys (n .1)))
     (λ m. rw (le-ltb s identifiers (mark-low s (m .0)), le-leb s access (mark-high s (m .0)), eq-eqb a endPlace (m .1)))
     (e .1))
+
+-- a symbol's entries arrive at its places, and at no others
+module _ (k s a : ℕ) where
+  pub arrives : isEntry k s a ≡ true → (arrivalsOf s .first ≤ a) × (a < arrivalsOf s .past)
+  unfolding arrivalsOf
+  arrives t = ⊎-elim
+      (λ n. rw (lt-ltb s identifiers (n .0)) (omega arith, n .1))
+      (λ m. rw (le-ltb s identifiers (mark-low s (m .0)), m .1) (omega arith, omega arith))
+      (entry-of k s a t .1)
+
+  pub arrives-back : k < keys → s ≤ access → arrivalsOf s .first ≤ a → a < arrivalsOf s .past → isEntry k s a ≡ true
+  unfolding arrivalsOf
+  arrives-back h high = turn (ltb s identifiers) refl
+    where
+      turn : (b : Bool) → ltb s identifiers ≡ b → cond b 0 endPlace ≤ a → a < cond b keys (endPlace + 1) → isEntry k s a ≡ true
+      turn true e low past = is-entry k s a (h, inl (ltb-true s identifiers e, past))
+      turn false e low past =
+          let more = ltb-false s identifiers e in
+          is-entry k s a (h, inr (by-cases (ℕ-discrete s 10) inl (λ n. inr (omega arith)), omega arith))
 
 -- the number of an entry of an identifier, and of a mark
 pub number-named : (k s a : ℕ) → s < identifiers → number k s a ≡ (k * 10 + s) * 16 + a

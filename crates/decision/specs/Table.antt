@@ -7,10 +7,15 @@ use lib.ListN.{getD}
 use Rattle.wac.specs.Limits.{keys, identifiers, delegate, access, endPlace, namedEntries, entries}
 use Rattle.wac.specs.File.{listed}
 use Rattle.rewriting.specs.Passes.{Table}
+use Rattle.decision.specs.declared.entries.Arrivals.{Arrivals}
 
 -- there is such an entry: a key reads an identifier and arrives at a key, or a mark and arrives at the end place
 unfoldable pub isEntry : ℕ → ℕ → ℕ → Bool
 isEntry k s a = ltb k keys && cond (ltb s identifiers) (ltb a keys) (leb s access && eqb a endPlace)
+
+-- the places where a symbol's entries arrive: the keys for an identifier, the end place for a mark
+unfoldable pub arrivalsOf : ℕ → Arrivals
+arrivalsOf s = record { first = cond (ltb s identifiers) 0 endPlace; past = cond (ltb s identifiers) keys (endPlace + 1) }
 
 -- the number of an entry: identifiers by (key × 10 + identifier) × 16 + arrival; then mark 10 by 2,560 + key; then mark 11 by 2,576 + key
 unfoldable pub number : ℕ → ℕ → ℕ → ℕ

@@ -8,7 +8,13 @@ ghost use Prim.Native.Nat.{_<_, _≤_};
 ghost use lib.ListN.{length};
 ghost use Rattle.wac.specs.Limits.{entries};
 ghost use Rattle.decision.specs.Lens.{weighingOf};
-ghost use Rattle.decision.specs.Table.{isEntry, number, tableOf};
+ghost use Rattle.decision.specs.Table.{isEntry, arrivalsOf, number, tableOf};
+
+// Places from the first on, up to the one past the last.
+pub struct Arrivals {
+    pub first: usize,
+    pub past: usize,
+}
 
 // Is there such an entry?
 pub fn is_entry(key: usize, symbol: usize, place: usize) -> bool
@@ -24,6 +30,23 @@ pub fn is_entry(key: usize, symbol: usize, place: usize) -> bool
         return false;
     }
     place == Table::END
+}
+
+// The places where a symbol's entries arrive.
+pub fn arrivals_of(symbol: usize) -> Arrivals
+    ensures { λ r. ⌜ r ≡ arrivalsOf symbol ⌝ }
+{
+    if symbol < Table::IDENTIFIERS {
+        Arrivals {
+            first: 0,
+            past: Table::KEYS,
+        }
+    } else {
+        Arrivals {
+            first: Table::END,
+            past: Table::END + 1,
+        }
+    }
 }
 
 // The number of an entry.

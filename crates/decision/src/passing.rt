@@ -37,11 +37,8 @@ fn try_cert(lens: Lens, old: &[u32], new: &mut [u32], cert: Cert)
     requires { ⌜ Within lens (now old) × Within lens (now new) × Lawful cert ⌝ }
     ensures { λ _. ⌜ Tried lens (now (old .entry)) cert (now (new .entry)) (now (new .exit)) ⌝ }
 {
-    if cert.left as usize == Table::DELEGATE {
-        try_at(lens, old, new, cert, Table::END);
-        return;
-    }
-    for place in 0..Table::KEYS {
+    let places = entries::arrivals_of(cert.left as usize);
+    for place in places.first..places.past {
         try_at(lens, old, new, cert, place);
     }
 }
