@@ -1,6 +1,7 @@
 -- The laws of the decision, beside the proofs of its functions.
 pub mod Choices
 pub mod RulesLaws
+pub mod FetchLaws
 pub mod EntryLaws
 pub mod TableLaws
 pub mod ReadingLaws

@@ -13,8 +13,7 @@ use Rattle.decision.specs.Lens.{weighingOf, questionBy}
 use Rattle.decision.specs.Engine.{held}
 use Rattle.decision.proofs.Choices.{when-true, when-false}
 use Rattle.decision.proofs.TableLaws.{list-held}
-use Rattle.decision.proofs.WritingLaws.{symbols-few}
-use Rattle.decision.proofs.ReadingLaws.{upTo, upTo-over, upTo-same, upTo-more, through, through-fits, through-lost, read-past, read-symbol, read-last}
+use Rattle.decision.proofs.ReadingLaws.{symbols-few, upTo, upTo-over, upTo-same, upTo-more, through, through-fits, through-lost, read-past, read-symbol, read-last}
 use Prim.Native.Nat.{ℕ, _+_, _-_, _*_, _≤_, _<_}
 use borrow.Fn.Kinds.{In}
 use borrow.Fn.PlainCycle.{Measures, is, falls, and}

@@ -12,7 +12,8 @@ use Rattle.decision.specs.Usable.{symbolsOf}
 use Rattle.decision.specs.Writing.{stepsAt, stepsRead}
 use Rattle.decision.specs.declared.lens.Lens.the-variants.{Minutes}
 use Rattle.decision.proofs.RulesLaws.{rules-lawful}
-use Rattle.decision.proofs.WritingLaws.{fetched-cert, fetched-refused, bringing-below, bringing-small, bringing-steps, entry-none, entry-own, Part, part-none, part-more, part-length, part-room, part-all}
+use Rattle.decision.proofs.FetchLaws.{fetched-lawful, fetched-same, fetched-refused}
+use Rattle.decision.proofs.WritingLaws.{bringing-below, bringing-small, bringing-steps, entry-none, entry-own, Part, part-none, part-more, part-length, part-room, part-all}
 use Rattle.decision.proofs.writing.expand_entry.Reads as expand-entry
 use Rattle.decision.proofs.writing.expand_entry.Kinds as expand-entry-kinds
 use Rattle.decision.proofs.writing.+expand_entry+expand_subject.Lts-expand_entry as expand-entry-lts
@@ -152,7 +153,7 @@ expand-entry-returns-2 : (t : ℕ) → expand-entry-lts.Need-returns-2 (
 expand-entry-returns-2 t c =
     let accepted = c .before .before .before .before .before .before .before .before .before .pre .1 .0 .accepted in
     let below = bringing-below (c .before .before .before .find-cert .ensures) in
-    absurd (fetched-refused accepted below (c .before .before .fetch-in .ensures) (c .enum-told .given .1))
+    absurd (fetched-refused (c .before .before .fetch-in .ensures) accepted below (c .enum-told .given .1))
 
 expand-entry-cast-chain : (t : ℕ) → expand-entry-lts.Need-cast-chain (
   weight-at-reads.Asked,
@@ -210,13 +211,14 @@ expand-entry-expand-subject-requires t c κs =
     let start = c .before .before .before .before .before .before .before .before .before .before .before in
     let pre = start .pre .1 in
     let bringing = c .before .before .before .before .before .find-cert .ensures in
-    let cert = fetched-cert (pre .0 .accepted) (bringing-below bringing) (c .before .before .before .before .fetch-in .ensures) (c .before .before .found .given .1) in
-    let steps = bringing-steps bringing (cert .0) in (
+    let from = c .before .before .before .before .fetch-in .ensures in
+    let is = c .before .before .found .given .1 in
+    let steps = bringing-steps bringing (fetched-same from (pre .0 .accepted) (bringing-below bringing) is) in (
       omega (arith, start .pre .0, steps),
       (
         pre .0,
         pre .1,
-        record { within = pre .0 .within; subject = cert .1 .count; symbols = omega arith; short = omega (arith, steps, pre .2) },
+        record { within = pre .0 .within; subject = fetched-lawful from is .count; symbols = omega arith; short = omega (arith, steps, pre .2) },
         simp length-set (omega (arith, steps, pre .3)),
       ),
     )
@@ -247,8 +249,8 @@ expand-entry-returns-3 t c =
     let accepted = c .before .before .before .before .before .before .before .before .before .before .before .before .before .before .pre .1 .0 .accepted in
     let bringing = c .before .before .before .before .before .before .before .before .find-cert .ensures in
     let found = c .before .before .before .before .before in
-    let cert = fetched-cert accepted (bringing-below bringing) (found .before .before .fetch-in .ensures) (found .found .given .1) in
-    entry-own bringing (cert .0) (bringing-small bringing accepted) (c .before .before .expand-subject .ensures)
+    let same = fetched-same (found .before .before .fetch-in .ensures) accepted (bringing-below bringing) (found .found .given .1) in
+    entry-own bringing same (bringing-small bringing accepted) (c .before .before .expand-subject .ensures)
 
 abbrev expand-subject-Inv-loop : expand-subject-lts.InvT-loop
 expand-subject-Inv-loop file request floor count table chain₀ at cert to symbols next₀ from₀ j₀ chain next from j =
