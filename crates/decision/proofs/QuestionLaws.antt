@@ -1,15 +1,14 @@
 -- Laws of the question: what the settled tables say, in terms of chains.
 use mathlib.Core.Path.{_≡_, refl, sym, ap, _∙_, subst}
-use mathlib.Core.Logic.{_⊎_, inl, inr, ⊎-elim, by-cases}
+use mathlib.Core.Logic.{⊎-elim, by-cases}
 use mathlib.Core.Bool.{true, cond}
 use mathlib.Core.List.{List, []}
-use Prim.Native.Nat.{ℕ, suc, _+_, _<_, _≤_}
+use Prim.Native.Nat.{ℕ, _<_, _≤_}
 use native.Mathlib.Decide.{decLt}
 use native.Mathlib.Omega.{arith}
 use borrow.Author.Tests.{leb-true}
 use lib.Dec.{leb, eqb}
 use lib.ListN.{length, getD, take, drop, replicate, drop-of-length-le, List·getD-eq-default}
-use lib.Seq.{take-all}
 use Rattle.wac.specs.Limits.{keys, entries, chainPlaces, authorizationKind}
 use Rattle.wac.specs.Bytes.{AreBytes}
 use Rattle.wac.specs.File.{certAt}
@@ -19,7 +18,7 @@ use Rattle.rewriting.specs.Rewriting.{Rules, Question, Weighty, Decides, delega
 use Rattle.rewriting.specs.Entries.{Lawful, Brings}
 use Rattle.rewriting.specs.Steps.{Fewest, Weighs, by-steps, kept}
 use Rattle.rewriting.specs.Passes.{Table, start, passes, repeated, Settled, PassCount, CountFrom}
-use Rattle.rewriting.specs.Tables.{Held, Last}
+use Rattle.rewriting.specs.Tables.{Held}
 use Rattle.rewriting.proofs.Order.{minutes-by-weakest}
 use Rattle.rewriting.proofs.Sound.{sound-held, start-sound}
 use Rattle.rewriting.proofs.Held.{repeated-held, stays-still}
@@ -29,7 +28,7 @@ use Rattle.rewriting.proofs.Steps.{kept-lawful, kept-best}
 use Rattle.rewriting.proofs.Settled.{settled-decides, settled-steps, settled-fewest}
 use Rattle.decision.specs.Usable.{includes, inForce, usable, rulesOf}
 use Rattle.decision.specs.Lens.{weighingOf, questionBy, rulesBy}
-use Rattle.decision.specs.Table.{isEntry, number, rowOf}
+use Rattle.decision.specs.Table.{rowOf}
 use Rattle.decision.specs.Engine.{Accepted, Within, held, SettledFrom}
 use Rattle.decision.specs.Writing.{stepsAt, StepsTable, Wrote, Entered}
 use Rattle.decision.specs.Question.{asked, Ready, Granting, MinutesHeld, StepsHeld, Counted, Counted.counted, Counted.uncountable, Answered, Answered.granted, Answered.denied}
