@@ -2,7 +2,6 @@
 pub mod Choices
 pub mod RulesLaws
 pub mod FetchLaws
-pub mod EntryLaws
 pub mod TableLaws
 pub mod ReadingLaws
 pub mod PassingLaws

@@ -21,7 +21,6 @@ use Rattle.rewriting.specs.Rewriting.{Rules, Question}
 use Rattle.rewriting.specs.Entries.{Mark}
 use Rattle.rewriting.specs.Passes.{start, reading, brought, fires, tried, pass}
 use Rattle.rewriting.proofs.Tests.{by-test}
-use Rattle.rewriting.proofs.Order.{best-from}
 use Rattle.rewriting.proofs.Held.{reading-fits}
 use Rattle.rewriting.proofs.Complete.{start-mark}
 use Rattle.decision.specs.Usable.{ruleOf, symbolsOf}
@@ -32,7 +31,7 @@ use Rattle.decision.specs.declared.request.Request.{Request}
 use Rattle.decision.specs.declared.lens.Lens.{Lens}
 use Rattle.decision.specs.declared.lens.Lens.the-variants.{Minutes, Steps}
 use Rattle.decision.proofs.RulesLaws.{rules-count, rules-rule, rules-weight, rules-live}
-use Rattle.decision.proofs.ReadingLaws.{reading-asker}
+use Rattle.decision.proofs.ReadingLaws.{best-fits, reading-asker}
 use Rattle.decision.proofs.TableLaws.{entry-of, is-entry, number-low, number-same, set-here, set-there, row-same, held-at, list-held, within-entries}
 
 -- the asker's marks are entries
@@ -97,10 +96,6 @@ weight-fits (Steps floor) c ok = omega arith
 pub offered-fits : (lens : Lens) (old : List ℕ) → Within lens old → (c : Cert) → Lawful c → (a : ℕ) → offered lens old c a ≤ weighingOf lens .cap
 offered-fits lens old within c ok a = weighingOf lens .laws .along-fits _ _ (weight-fits lens c ok)
     (reading-fits (questionBy lens 0) (held lens old) (list-held lens 0 old within) _ _ a)
-
--- the better of two weights that fit fits
-pub best-fits : (W : Weighing) (x y : ℕ) → x ≤ W .cap → y ≤ W .cap → W .best x y ≤ W .cap
-best-fits W x y h k = ⊎-elim (λ e. rw e h) (λ e. rw e k) (best-from W x y)
 
 -- storing a weight that fits
 set-fits : (l : List ℕ) (n v cap : ℕ) → ((e : ℕ) → getD l e 0 ≤ cap) → v ≤ cap → (e : ℕ) → getD (set l n v) e 0 ≤ cap

@@ -18,6 +18,7 @@ use Rattle.rewriting.specs.Rewriting.{Question}
 use Rattle.rewriting.specs.Passes.{Table, over, reading}
 use Rattle.rewriting.specs.Tables.{Held}
 use Rattle.rewriting.proofs.Tests.{by-test}
+use Rattle.rewriting.proofs.Order.{best-from}
 use Rattle.rewriting.proofs.Passing.{over-from, over-takes}
 use Rattle.rewriting.proofs.Words.{arrival-place}
 use Rattle.rewriting.proofs.Held.{reading-fits}
@@ -68,6 +69,10 @@ module _ (c : Cert) (few : c .count ≤ subjectIds) where
           let same : length (take (c .count) (ids c)) ≡ j = some-ids ∙ omega (arith, symbols-marked e) in
           rw (when-false (eqb (c .mark) unused) [] (c .mark ∷ []) (ne-eqb _ _ e)) (getD-at (take (c .count) (ids c)) (c .mark) [] 0 j same)
 
+-- the better of two weights that fit fits
+pub best-fits : (W : Weighing) (x y : ℕ) → x ≤ W .cap → y ≤ W .cap → W .best x y ≤ W .cap
+best-fits W x y h k = ⊎-elim (λ e. rw e h) (λ e. rw e k) (best-from W x y)
+
 -- the best of f 0, f 1, .. f (n - 1), and none of no number
 unfoldable pub upTo : Weighing → ℕ → (ℕ → ℕ) → ℕ
 upTo W zero f = W .none
@@ -77,11 +82,7 @@ module _ (W : Weighing) (f : ℕ → ℕ) (fits : (p : ℕ) → f p ≤ W .cap) 
   pub upTo-fits : (n : ℕ) → upTo W n f ≤ W .cap
   unfolding upTo
   upTo-fits zero = W .laws .none-fits
-  upTo-fits (suc n) = turn (upTo-fits n) (ℕ-discrete (W .best (upTo W n f) (f n)) (upTo W n f))
-    where
-      turn : upTo W n f ≤ W .cap → Dec (W .best (upTo W n f) (f n) ≡ upTo W n f) → W .best (upTo W n f) (f n) ≤ W .cap
-      turn h (yes e) = rw e h
-      turn h (no e) = rw (W .laws .best-picks _ _ e) (fits n)
+  upTo-fits (suc n) = best-fits W _ _ (upTo-fits n) (fits n)
 
   -- the best of the first n + 1 numbers
   pub upTo-over : (n : ℕ) → upTo W (suc n) f ≡ over W n f
