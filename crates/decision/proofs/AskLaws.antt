@@ -5,16 +5,15 @@ use mathlib.Core.List.{List, [], _∷_, _++_}
 use Prim.Native.Nat.{ℕ, zero, suc, _+_, _<_, _≤_}
 use native.Mathlib.Omega.{arith}
 use lib.Dec.{leb, ltb, eqb}
-use borrow.Author.Tests.{lt-leb, lt-ltb, le-ltb, leb-false, ltb-false, eqb-true, eqb-false}
+use borrow.Author.Tests.{lt-leb, lt-ltb, le-ltb, leb-false, eqb-true, eqb-false}
 use lib.ListN.{length, getD, set, replicate, length-set, take, drop, length-append, length-drop, List·getD-append}
-use lib.Seq.{getD-set-same, getD-set-other, take-at, drop-at, take-all, length-take-le}
+use lib.Seq.{getD-set-same, getD-set-other, take-at, drop-at, take-all}
 use Rattle.wac.specs.Limits.{keys, allRights, entries, chainPlaces}
-use Rattle.wac.specs.Answers.{Answer, gives, refuses, _if_, firstOf}
+use Rattle.wac.specs.Answers.{Answer, gives, _if_, firstOf}
 use Rattle.wac.specs.File.{countOf, fileCases}
 use Rattle.wac.proofs.Cases.{first-none, first-holds, first-fails, first-passed, first-refused, first-given, first-both, first-alone, gives-injective}
 use Rattle.rewriting.specs.Weighing.{minutes}
 use Rattle.rewriting.specs.Steps.{Fewest}
-use Rattle.decision.specs.Lens.{weighingOf}
 use Rattle.decision.specs.Engine.{Within}
 use Rattle.decision.specs.Table.{number}
 use Rattle.decision.specs.Question.{requestCases, askCases, settleCases, refusedAs, requestOf, Ready, MinutesHeld, StepsHeld, Counted, Counted.counted, Counted.uncountable, Answered, Answered.granted, Answered.denied, Judged, Judged.refused, Judged.answered, Shows}

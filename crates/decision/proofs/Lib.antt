@@ -1,7 +1,7 @@
 -- The laws of the decision, beside the proofs of its functions.
 pub mod Choices
 pub mod RulesLaws
-pub mod EntryLaws
+pub mod FetchLaws
 pub mod TableLaws
 pub mod ReadingLaws
 pub mod PassingLaws

@@ -1,44 +1,37 @@
 -- Laws of one pass: what is tried at an entry, what a certificate changes, and what a pass over a file's certificates gives.
-use mathlib.Core.Path.{_≡_, refl, sym, ap, _∙_, subst, fun-ext}
-use mathlib.Core.Bool.{Bool, true, false, cond, not, _&&_, _||_, true≢false}
+use mathlib.Core.Path.{_≡_, refl, sym, ap, _∙_, subst}
+use mathlib.Core.Bool.{Bool, true, false, cond, _&&_, _||_, true≢false}
 use mathlib.Core.Logic.{inl, inr, ⊎-elim, by-cases}
 use mathlib.Core.List.{List, [], _∷_}
-use Prim.Native.Nat.{ℕ, zero, suc, _+_, _<_, _≤_, max}
+use Prim.Native.Nat.{ℕ, zero, suc, _+_, _<_, _≤_}
 use native.Mathlib.Omega.{arith}
 use native.Mathlib.Numerals.{add-one}
 use native.Mathlib.Decide.{ℕ-discrete}
-use borrow.Author.Tests.{leb-true, leb-false, eqb-true, lt-leb, eq-eqb, ne-eqb}
-use lib.Dec.{leb, eqb}
+use borrow.Author.Tests.{eqb-true, eq-eqb, ne-eqb}
+use lib.Dec.{eqb}
 use lib.ListN.{length, getD, take, drop, set, length-set, replicate, getD-replicate}
 use lib.Seq.{getD-take, getD-set-other, drop-set-lt}
 use Rattle.wac.specs.Limits.{keys, identifiers, delegate, access, endPlace, entries}
-use Rattle.wac.specs.Answers.{gives}
 use Rattle.wac.specs.Record.{Lawful}
-use Rattle.wac.specs.File.{countOf, certAt, frameCases}
-use Rattle.wac.specs.View.{fetched, InRanges, FetchedFrom, fetchCases, numberCases}
+use Rattle.wac.specs.File.{countOf, certAt}
 use Rattle.wac.specs.declared.cert.Cert.{Cert}
-use Rattle.wac.specs.declared.refusal.Refusal.{Refusal}
-use Rattle.wac.specs.declared.view.Fetched.{Fetched}
-use Rattle.wac.specs.declared.view.Fetched.the-variants.{Certificate, Refused}
-use Rattle.wac.proofs.Cases.{first-none, first-fails, first-given, gives-injective, gives-not-refuses}
-use Rattle.wac.proofs.FileLaws.{file-kept, framed-accepted}
 use Rattle.wac.proofs.Tests.{and-both}
 use Rattle.rewriting.specs.Weighing.{Weighing, minutes, steps}
 use Rattle.rewriting.specs.Rewriting.{Rules, Question}
 use Rattle.rewriting.specs.Entries.{Mark}
-use Rattle.rewriting.specs.Passes.{Table, start, over, reading, brought, fires, tried, pass}
-use Rattle.rewriting.specs.Steps.{kept}
+use Rattle.rewriting.specs.Passes.{start, reading, brought, fires, tried, pass}
 use Rattle.rewriting.proofs.Tests.{by-test}
-use Rattle.rewriting.proofs.Order.{best-from}
-use Rattle.rewriting.proofs.Passing.{over-from}
+use Rattle.rewriting.proofs.Held.{reading-fits}
 use Rattle.rewriting.proofs.Complete.{start-mark}
-use Rattle.decision.specs.Usable.{usable, rulesOf, ruleOf, symbolsOf}
+use Rattle.decision.specs.Usable.{ruleOf, symbolsOf}
 use Rattle.decision.specs.Lens.{weighingOf, questionBy, rulesBy, liveBy, weightBy}
 use Rattle.decision.specs.Table.{isEntry, number, rowOf}
-use Rattle.decision.specs.Engine.{Accepted, Within, held, offered, Tried, Passed}
+use Rattle.decision.specs.Engine.{Within, held, offered, Tried, Passed}
 use Rattle.decision.specs.declared.request.Request.{Request}
 use Rattle.decision.specs.declared.lens.Lens.{Lens}
 use Rattle.decision.specs.declared.lens.Lens.the-variants.{Minutes, Steps}
+use Rattle.decision.proofs.RulesLaws.{rules-count, rules-rule, rules-weight, rules-live}
+use Rattle.decision.proofs.ReadingLaws.{best-fits, reading-asker}
 use Rattle.decision.proofs.TableLaws.{entry-of, is-entry, number-low, number-same, set-here, set-there, row-same, held-at, list-held, within-entries}
 
 -- the asker's marks are entries
@@ -93,14 +86,6 @@ module _ (lens : Lens) (asker : ℕ) (h : asker < keys) (l : List ℕ) (long : e
         ∙ drop-set-lt entries l (number asker delegate endPlace) whole (number-low asker delegate endPlace (asker-entry asker delegate h (inl refl))),
   )
 
--- a reading fits the weighing
-pub reading-fits : (Q : Question) (t : Table) → ((k s a : ℕ) → t k s a ≤ Q .weighing .cap) → (q : ℕ) (w : List ℕ) (a : ℕ) → reading Q t q w a ≤ Q .weighing .cap
-unfolding reading
-reading-fits Q t fits q [] a = by-test (λ x. x ≤ Q .weighing .cap) (eqb q a) (λ e. Q .weighing .laws .whole-fits) (λ e. Q .weighing .laws .none-fits)
-reading-fits Q t fits q (s ∷ w) a =
-    let o = over-from (Q .weighing) (Q .keys) (λ p. Q .weighing .along (t q s p) (reading Q t p w a)) in
-    rw (o .2) (Q .weighing .laws .along-fits _ _ (fits q s (o .0)) (reading-fits Q t fits (o .0) w a))
-
 -- a lawful certificate's weight fits
 pub weight-fits : (lens : Lens) (c : Cert) → Lawful c → weightBy lens c ≤ weighingOf lens .cap
 unfolding minutes steps
@@ -110,11 +95,7 @@ weight-fits (Steps floor) c ok = omega arith
 -- and so does what it offers
 pub offered-fits : (lens : Lens) (old : List ℕ) → Within lens old → (c : Cert) → Lawful c → (a : ℕ) → offered lens old c a ≤ weighingOf lens .cap
 offered-fits lens old within c ok a = weighingOf lens .laws .along-fits _ _ (weight-fits lens c ok)
-    (reading-fits (questionBy lens 0) (held lens old) (list-held lens 0 old within .fits) _ _ a)
-
--- the better of two weights that fit fits
-pub best-fits : (W : Weighing) (x y : ℕ) → x ≤ W .cap → y ≤ W .cap → W .best x y ≤ W .cap
-best-fits W x y h k = ⊎-elim (λ e. rw e h) (λ e. rw e k) (best-from W x y)
+    (reading-fits (questionBy lens 0) (held lens old) (list-held lens 0 old within) _ _ a)
 
 -- storing a weight that fits
 set-fits : (l : List ℕ) (n v cap : ℕ) → ((e : ℕ) → getD l e 0 ≤ cap) → v ≤ cap → (e : ℕ) → getD (set l n v) e 0 ≤ cap
@@ -213,61 +194,6 @@ module _ {lens : Lens} {old : List ℕ} {c : Cert} {new₀ new : List ℕ} {p : 
 -- a left side is a symbol
 pub left-symbol : (c : Cert) → Lawful c → c .left ≤ access
 left-symbol c ok = ⊎-elim (λ n. (let h = n .left in omega arith)) (λ m. (let e = m .left in omega arith)) (ok .sort)
-
--- what fetching from an accepted file finds: the certificate of that number, and it is lawful
-module _ {s : List ℕ} {i : ℕ} {r : Fetched} (from : FetchedFrom s i r) where
-  pub fetched-lawful : {c : Cert} → r ≡ Certificate c → Lawful c
-  fetched-lawful e = subst InRanges e (from .ranges)
-
-  module _ (ok : Accepted s) (h : i < countOf s) where
-    fetched-cert : fetched r ≡ gives (certAt s i)
-    unfolding fetchCases numberCases
-    fetched-cert =
-        let kept = file-kept s ok in
-        from .answer ∙ first-given (frameCases s) _ (countOf s) (certAt s i) (framed-accepted s (kept .0))
-        ∙ first-fails _ _ _ (lt-leb (countOf s) i h) ∙ first-fails _ _ _ (ap not (kept .2 i h)) ∙ first-none _
-
-    pub fetched-same : {c : Cert} → r ≡ Certificate c → c ≡ certAt s i
-    fetched-same e = gives-injective (sym (ap fetched e) ∙ fetched-cert)
-
-    pub fetched-refused : {why : Refusal} → r ≡ Refused why → ⊥
-    fetched-refused e = gives-not-refuses (sym fetched-cert ∙ ap fetched e)
-
--- a test for the greater of two
-max-test : (m w : ℕ) → eqb (max m w) w ≡ leb m w
-max-test m w = turn (leb m w) refl
-  where
-    turn : (b : Bool) → leb m w ≡ b → eqb (max m w) w ≡ b
-    turn true e = let h = leb-true m w e in eq-eqb (max m w) w (omega arith)
-    turn false e = let h = leb-false m w e in ne-eqb (max m w) w (λ q. omega arith)
-
--- the rules that a lens sees, by the file's certificates
-pub rules-count : (lens : Lens) (s : List ℕ) (q : Request) → rulesBy lens s q .count ≡ countOf s
-unfolding rulesOf kept
-rules-count Minutes s q = refl
-rules-count (Steps floor) s q = refl
-
-pub rules-rule : (lens : Lens) (s : List ℕ) (q : Request) (i : ℕ) → rulesBy lens s q .rule i ≡ ruleOf (certAt s i)
-unfolding rulesOf kept
-rules-rule Minutes s q i = refl
-rules-rule (Steps floor) s q i = refl
-
-pub rules-weight : (lens : Lens) (s : List ℕ) (q : Request) (i : ℕ) → rulesBy lens s q .weight i ≡ weightBy lens (certAt s i)
-unfolding rulesOf kept
-rules-weight Minutes s q i = refl
-rules-weight (Steps floor) s q i = refl
-
-pub rules-live : (lens : Lens) (s : List ℕ) (q : Request) (i : ℕ) → rulesBy lens s q .live i ≡ liveBy lens q (certAt s i)
-unfolding rulesOf kept minutes
-rules-live Minutes s q i = refl
-rules-live (Steps floor) s q i = ap (λ b. usable q (certAt s i) && b) (max-test floor (certAt s i .«not_after»))
-
--- a reading does not depend on the asker
-pub reading-asker : (lens : Lens) (a b : ℕ) (t : Table) (k : ℕ) (w : List ℕ) (p : ℕ) → reading (questionBy lens a) t k w p ≡ reading (questionBy lens b) t k w p
-unfolding reading
-reading-asker lens a b t k [] p = refl
-reading-asker lens a b t k (s ∷ w) p =
-    ap (over (weighingOf lens) keys) (fun-ext (λ r. ap (weighingOf lens .along (t k s r)) (reading-asker lens a b t r w p)))
 
 cond-same : {b b′ : Bool} {x x′ y y′ : ℕ} → b ≡ b′ → x ≡ x′ → y ≡ y′ → cond b x y ≡ cond b′ x′ y′
 cond-same e f g = rw (e, f, g)

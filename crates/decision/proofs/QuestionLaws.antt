@@ -1,15 +1,14 @@
 -- Laws of the question: what the settled tables say, in terms of chains.
 use mathlib.Core.Path.{_≡_, refl, sym, ap, _∙_, subst}
-use mathlib.Core.Logic.{_⊎_, inl, inr, ⊎-elim, by-cases}
+use mathlib.Core.Logic.{⊎-elim, by-cases}
 use mathlib.Core.Bool.{true, cond}
 use mathlib.Core.List.{List, []}
-use Prim.Native.Nat.{ℕ, suc, _+_, _<_, _≤_}
+use Prim.Native.Nat.{ℕ, _<_, _≤_}
 use native.Mathlib.Decide.{decLt}
 use native.Mathlib.Omega.{arith}
 use borrow.Author.Tests.{leb-true}
 use lib.Dec.{leb, eqb}
 use lib.ListN.{length, getD, take, drop, replicate, drop-of-length-le, List·getD-eq-default}
-use lib.Seq.{take-all}
 use Rattle.wac.specs.Limits.{keys, entries, chainPlaces, authorizationKind}
 use Rattle.wac.specs.Bytes.{AreBytes}
 use Rattle.wac.specs.File.{certAt}
@@ -19,7 +18,7 @@ use Rattle.rewriting.specs.Rewriting.{Rules, Question, Weighty, Decides, delega
 use Rattle.rewriting.specs.Entries.{Lawful, Brings}
 use Rattle.rewriting.specs.Steps.{Fewest, Weighs, by-steps, kept}
 use Rattle.rewriting.specs.Passes.{Table, start, passes, repeated, Settled, PassCount, CountFrom}
-use Rattle.rewriting.specs.Tables.{Held, Last}
+use Rattle.rewriting.specs.Tables.{Held}
 use Rattle.rewriting.proofs.Order.{minutes-by-weakest}
 use Rattle.rewriting.proofs.Sound.{sound-held, start-sound}
 use Rattle.rewriting.proofs.Held.{repeated-held, stays-still}
@@ -29,7 +28,7 @@ use Rattle.rewriting.proofs.Steps.{kept-lawful, kept-best}
 use Rattle.rewriting.proofs.Settled.{settled-decides, settled-steps, settled-fewest}
 use Rattle.decision.specs.Usable.{includes, inForce, usable, rulesOf}
 use Rattle.decision.specs.Lens.{weighingOf, questionBy, rulesBy}
-use Rattle.decision.specs.Table.{isEntry, number, rowOf}
+use Rattle.decision.specs.Table.{rowOf}
 use Rattle.decision.specs.Engine.{Accepted, Within, held, SettledFrom}
 use Rattle.decision.specs.Writing.{stepsAt, StepsTable, Wrote, Entered}
 use Rattle.decision.specs.Question.{asked, Ready, Granting, MinutesHeld, StepsHeld, Counted, Counted.counted, Counted.uncountable, Answered, Answered.granted, Answered.denied}
@@ -113,20 +112,20 @@ past : (l : List ℕ) → length l ≡ entries → drop entries l ≡ []
 past l e = drop-of-length-le l {i = entries} (omega arith)
 
 -- the steps of a granted question
-module _ (s : List ℕ) (q : Request) (bytes : AreBytes s) {count W : ℕ} (g : Granting s q count W) where
+module _ {s : List ℕ} {q : Request} (bytes : AreBytes s) {count W : ℕ} (g : Granting s q count W) where
   abbrev by-minutes : Lawful (asked q) (rulesOf s q)
   by-minutes = rules-lawful Minutes s q bytes (g .ready .accepted) (g .ready .asker)
 
   -- the start is within the cap
-  pub steps-start : (l : List ℕ) → length l ≡ entries → take entries l ≡ rowOf (start (questionBy (Steps W) (q .asker))) → Within (Steps W) l
-  steps-start = start-within (Steps W) s q bytes (g .ready .accepted) (g .ready .asker)
+  pub steps-start : {l : List ℕ} → length l ≡ entries → take entries l ≡ rowOf (start (questionBy (Steps W) (q .asker))) → Within (Steps W) l
+  steps-start {l} = start-within (Steps W) s q bytes (g .ready .accepted) (g .ready .asker) l
 
   -- what is written out for the owner's mark 10 is a best chain
   pub entered-weighs : (ch : List ℕ) → Entered s q W (q .owner) delegate keys ch → Weighs (asked q) (rulesOf s q) (q .owner) W ch
   entered-weighs ch e =
       kept-best by-minutes minutes-by-weakest (q .owner) (g .best) ch .0 (chain-brings (kept-lawful by-minutes minutes W) (q .owner) ch .1 e)
 
-  module _ (l l₁ l₂ : List ℕ) (long : length l ≡ entries) (same : length l₁ ≡ length l) (row : take entries l₁ ≡ rowOf (start (questionBy (Steps W) (q .asker)))) (N : ℕ) (settled : SettledFrom (Steps W) s q l₁ N l₂) where
+  module _ (l : List ℕ) {l₁ l₂ : List ℕ} (long : length l ≡ entries) (same : length l₁ ≡ length l) (row : take entries l₁ ≡ rowOf (start (questionBy (Steps W) (q .asker)))) {N : ℕ} (settled : SettledFrom (Steps W) s q l₁ N l₂) where
     done : Done (Steps W) s q N l₂
     done = settled-done (Steps W) s q bytes (g .ready .accepted) (g .ready .asker) l₁ l₂ N (same ∙ long) row settled
 
@@ -153,25 +152,25 @@ module _ (s : List ℕ) (q : Request) (bytes : AreBytes s) {count W : ℕ} (g : 
     fewest-owner = rw (ap (λ t. t (q .owner) delegate keys) (done .table)) (settled-fewest by-minutes (done .before) W (done .settled) minutes-by-weakest (q .owner) (g .best))
 
     -- every best chain has more than 200 steps
-    pub counted-long : (P n : ℕ) (ch : List ℕ) → n ≡ stepsAt W l₂ (q .owner) delegate keys → chainPlaces < n → Counted s q W P (verdicts.GrantedLong W P) l l₂ ch ch
-    counted-long P n ch e h =
+    pub counted-long : {P n : ℕ} {ch : List ℕ} → n ≡ stepsAt W l₂ (q .owner) delegate keys → chainPlaces < n → Counted s q W P (verdicts.GrantedLong W P) l l₂ ch ch
+    counted-long e h =
         let top = at-fits W l₂ (q .owner) delegate keys (done .within) in
         let most : stepsAt W l₂ (q .owner) delegate keys ≡ uncounted = omega arith in
         uncountable (rw most at fewest-owner) refl steps-held refl
 
     -- a shortest best chain is written out
-    pub counted-short : (P n : ℕ) (ch ch′ : List ℕ) (r : ℕ) → n ≡ stepsAt W l₂ (q .owner) delegate keys → n ≤ chainPlaces →
+    pub counted-short : {P n : ℕ} {ch ch′ : List ℕ} {r : ℕ} → n ≡ stepsAt W l₂ (q .owner) delegate keys → n ≤ chainPlaces →
         Wrote (Entered s q W (q .owner) delegate keys) 0 (stepsAt W l₂ (q .owner) delegate keys) ch ch′ r → Counted s q W P (verdicts.Granted W n P) l l₂ ch ch′
-    counted-short P n ch ch′ r e h w =
+    counted-short {n = n} e h w =
         counted n (w .list) (rw e fewest-owner) h (entered-weighs (w .list) (w .holds)) (w .long ∙ sym e) (w .written) steps-held refl
 
 -- the minutes of a question in order
-module _ (s : List ℕ) (q : Request) (bytes : AreBytes s) {count : ℕ} (ready : Ready s q count) where
+module _ {s : List ℕ} {q : Request} (bytes : AreBytes s) {count : ℕ} (ready : Ready s q count) where
   -- the start is within the cap
-  pub minutes-start : (l : List ℕ) → length l ≡ entries → take entries l ≡ rowOf (start (questionBy Minutes (q .asker))) → Within Minutes l
-  minutes-start = start-within Minutes s q bytes (ready .accepted) (ready .asker)
+  pub minutes-start : {l : List ℕ} → length l ≡ entries → take entries l ≡ rowOf (start (questionBy Minutes (q .asker))) → Within Minutes l
+  minutes-start {l} = start-within Minutes s q bytes (ready .accepted) (ready .asker) l
 
-  module _ (l l₁ l₂ : List ℕ) (long : length l ≡ entries) (same : length l₁ ≡ length l) (row : take entries l₁ ≡ rowOf (start (questionBy Minutes (q .asker)))) (N : ℕ) (settled : SettledFrom Minutes s q l₁ N l₂) where
+  module _ (l : List ℕ) {l₁ l₂ : List ℕ} (long : length l ≡ entries) (same : length l₁ ≡ length l) (row : take entries l₁ ≡ rowOf (start (questionBy Minutes (q .asker)))) {N : ℕ} (settled : SettledFrom Minutes s q l₁ N l₂) where
     at-last : Done Minutes s q N l₂
     at-last = settled-done Minutes s q bytes (ready .accepted) (ready .asker) l₁ l₂ N (same ∙ long) row settled
 
@@ -179,23 +178,23 @@ module _ (s : List ℕ) (q : Request) (bytes : AreBytes s) {count : ℕ} (ready 
     minutes-held = record { count = at-last .count; row = at-last .row; beyond = past l₂ (settled .long ∙ same ∙ long) ∙ sym (past l long) }
 
     -- the owner's mark 10 decides
-    owner-decides : (m : ℕ) → m ≡ held Minutes l₂ (q .owner) delegate keys → Decides (asked q) (rulesOf s q) (q .owner) m
-    owner-decides m e =
+    owner-decides : {m : ℕ} → m ≡ held Minutes l₂ (q .owner) delegate keys → Decides (asked q) (rulesOf s q) (q .owner) m
+    owner-decides e =
         rw (e ∙ ap (λ t. t (q .owner) delegate keys) (at-last .table))
         (settled-decides (rules-lawful Minutes s q bytes (ready .accepted) (ready .asker)) (at-last .before) (at-last .settled) minutes-by-weakest
         (rules-weighty s q (ready .minute)) (q .owner))
 
     -- no chain
-    pub answered-none : (m : ℕ) → m ≡ held Minutes l₂ (q .owner) delegate keys → m ≡ 0 → (t t′ ch : List ℕ) →
+    pub answered-none : {m : ℕ} → m ≡ held Minutes l₂ (q .owner) delegate keys → m ≡ 0 → {t t′ ch : List ℕ} →
         (take entries t′ ≡ replicate entries uncounted) × (drop entries t′ ≡ drop entries t) → Answered s q (verdicts.NoChain N) l l₂ t t′ ch ch
     unfolding minutes
-    answered-none m e z t t′ ch steps = ⊎-elim (λ d. denied N (d .1) minutes-held (steps .0) (steps .1) refl refl) (λ d. absurd (d .0 z)) (owner-decides m e)
+    answered-none e z steps = ⊎-elim (λ d. denied N (d .1) minutes-held (steps .0) (steps .1) refl refl) (λ d. absurd (d .0 z)) (owner-decides e)
 
     -- a minute
-    pub granting : (m : ℕ) → m ≡ held Minutes l₂ (q .owner) delegate keys → (m ≡ 0 → ⊥) → Granting s q count m
+    pub granting : {m : ℕ} → m ≡ held Minutes l₂ (q .owner) delegate keys → (m ≡ 0 → ⊥) → Granting s q count m
     unfolding minutes
-    granting m e some = ⊎-elim (λ d. absurd (some (d .0))) (λ d. record { ready = ready; best = d .1 }) (owner-decides m e)
+    granting e some = ⊎-elim (λ d. absurd (some (d .0))) (λ d. record { ready = ready; best = d .1 }) (owner-decides e)
 
-    pub answered-granted : (m : ℕ) → m ≡ held Minutes l₂ (q .owner) delegate keys → (m ≡ 0 → ⊥) → (r : Verdict) (t t′ ch ch′ : List ℕ) →
+    pub answered-granted : {m : ℕ} → m ≡ held Minutes l₂ (q .owner) delegate keys → (m ≡ 0 → ⊥) → {r : Verdict} {t t′ ch ch′ : List ℕ} →
         Counted s q m N r t t′ ch ch′ → Answered s q r l l₂ t t′ ch ch′
-    answered-granted m e some r t t′ ch ch′ c = granted m N some (granting m e some .best) minutes-held c
+    answered-granted {m} e some c = granted m N some (granting e some .best) minutes-held c

@@ -1,31 +1,42 @@
 -- Laws of a certificate's symbols and of their best reading.
-use mathlib.Core.Path.{_≡_, refl, sym, ap, _∙_}
-use mathlib.Core.Logic.{_⊎_, inl, inr, ⊎-elim}
+use mathlib.Core.Path.{_≡_, refl, sym, ap, _∙_, fun-ext}
+use mathlib.Core.Logic.{⊎-elim}
 use mathlib.Core.Bool.{cond}
-use mathlib.Core.List.{List, [], _∷_, _++_}
+use mathlib.Core.List.{List, [], _∷_}
 use Prim.Native.Nat.{ℕ, zero, suc, _+_, _<_, _≤_}
-use native.Mathlib.Decide.{decLe, ℕ-discrete}
+use native.Mathlib.Decide.{ℕ-discrete}
 use native.Mathlib.Numerals.{add-one}
 use native.Mathlib.Omega.{arith}
 use borrow.Author.Tests.{eq-eqb, ne-eqb}
 use lib.Dec.{eqb}
 use lib.ListN.{length, getD, take, drop, length-append, length-take, drop-of-length-le, List·getD-append}
 use lib.Seq.{getD-take, getD-at, drop-cons, length-take-le}
-use Rattle.wac.specs.Limits.{subjectIds, unused}
+use Rattle.wac.specs.Limits.{keys, subjectIds, unused}
 use Rattle.wac.specs.declared.cert.Cert.{Cert}
-use Rattle.rewriting.specs.Weighing.{Weighing, AtMost}
+use Rattle.rewriting.specs.Weighing.{Weighing}
 use Rattle.rewriting.specs.Rewriting.{Question}
 use Rattle.rewriting.specs.Passes.{Table, over, reading}
 use Rattle.rewriting.specs.Tables.{Held}
+use Rattle.rewriting.proofs.Tests.{by-test}
+use Rattle.rewriting.proofs.Order.{best-from}
 use Rattle.rewriting.proofs.Passing.{over-from, over-takes}
 use Rattle.rewriting.proofs.Words.{arrival-place}
 use Rattle.rewriting.proofs.Held.{reading-fits}
 use Rattle.decision.specs.Usable.{symbolsOf}
+use Rattle.decision.specs.Lens.{weighingOf, questionBy}
+use Rattle.decision.specs.declared.lens.Lens.{Lens}
 use Rattle.decision.proofs.Choices.{when-true, when-false}
 
 -- the three identifier bytes
 abbrev ids : Cert → List ℕ
 ids c = c .ids .0 ∷ c .ids .1 ∷ c .ids .2 ∷ []
+
+-- a right side has at most four symbols
+pub symbols-few : (c : Cert) → length (symbolsOf c) ≤ 4
+unfolding symbolsOf
+symbols-few c =
+    let mark = by-test (λ (w : List ℕ). length w ≤ 1) (eqb (c .mark) unused) {x = []} {y = c .mark ∷ []} (λ e. omega arith) (λ e. omega arith) in
+    omega (arith, length-append (take (c .count) (ids c)) (cond (eqb (c .mark) unused) [] (c .mark ∷ [])), length-take (c .count) (ids c), mark)
 
 module _ (c : Cert) (few : c .count ≤ subjectIds) where
   -- as many identifiers as the certificate says
@@ -58,6 +69,10 @@ module _ (c : Cert) (few : c .count ≤ subjectIds) where
           let same : length (take (c .count) (ids c)) ≡ j = some-ids ∙ omega (arith, symbols-marked e) in
           rw (when-false (eqb (c .mark) unused) [] (c .mark ∷ []) (ne-eqb _ _ e)) (getD-at (take (c .count) (ids c)) (c .mark) [] 0 j same)
 
+-- the better of two weights that fit fits
+pub best-fits : (W : Weighing) (x y : ℕ) → x ≤ W .cap → y ≤ W .cap → W .best x y ≤ W .cap
+best-fits W x y h k = ⊎-elim (λ e. rw e h) (λ e. rw e k) (best-from W x y)
+
 -- the best of f 0, f 1, .. f (n - 1), and none of no number
 unfoldable pub upTo : Weighing → ℕ → (ℕ → ℕ) → ℕ
 upTo W zero f = W .none
@@ -67,11 +82,7 @@ module _ (W : Weighing) (f : ℕ → ℕ) (fits : (p : ℕ) → f p ≤ W .cap) 
   pub upTo-fits : (n : ℕ) → upTo W n f ≤ W .cap
   unfolding upTo
   upTo-fits zero = W .laws .none-fits
-  upTo-fits (suc n) = turn (upTo-fits n) (ℕ-discrete (W .best (upTo W n f) (f n)) (upTo W n f))
-    where
-      turn : upTo W n f ≤ W .cap → Dec (W .best (upTo W n f) (f n) ≡ upTo W n f) → W .best (upTo W n f) (f n) ≤ W .cap
-      turn h (yes e) = rw e h
-      turn h (no e) = rw (W .laws .best-picks _ _ e) (fits n)
+  upTo-fits (suc n) = best-fits W _ _ (upTo-fits n) (fits n)
 
   -- the best of the first n + 1 numbers
   pub upTo-over : (n : ℕ) → upTo W (suc n) f ≡ over W n f
@@ -87,6 +98,13 @@ module _ (W : Weighing) (f : ℕ → ℕ) (fits : (p : ℕ) → f p ≤ W .cap) 
   -- a number that weighs nothing adds nothing
   pub upTo-same : (n : ℕ) → f n ≡ W .none → upTo W (n + 1) f ≡ upTo W n f
   upTo-same n e = upTo-more n ∙ ap (W .best (upTo W n f)) e ∙ W .laws .best-comm _ _ ∙ W .laws .best-none _ (upTo-fits n)
+
+-- a reading does not depend on the asker
+pub reading-asker : (lens : Lens) (a b : ℕ) (t : Table) (k : ℕ) (w : List ℕ) (p : ℕ) → reading (questionBy lens a) t k w p ≡ reading (questionBy lens b) t k w p
+unfolding reading
+reading-asker lens a b t k [] p = refl
+reading-asker lens a b t k (s ∷ w) p =
+    ap (over (weighingOf lens) keys) (fun-ext (λ r. ap (weighingOf lens .along (t k s r)) (reading-asker lens a b t r w p)))
 
 -- what a place gives to the reading of a word from its symbol j on
 abbrev pub through : Question → Table → List ℕ → ℕ → ℕ → ℕ → ℕ → ℕ

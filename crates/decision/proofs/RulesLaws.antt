@@ -1,15 +1,14 @@
--- The rules of an accepted file are certificates' rules.
-use mathlib.Core.Path.{_≡_, refl, sym, ap, _∙_, subst}
+-- The rules of an accepted file are certificates' rules, and those that a lens sees.
+use mathlib.Core.Path.{_≡_, refl, ap}
 use mathlib.Core.Logic.{_⊎_, inl, inr, ⊎-elim}
-use mathlib.Core.Bool.{Bool, true, false, cond}
+use mathlib.Core.Bool.{Bool, true, false, _&&_}
 use mathlib.Core.List.{List, [], _∷_, _++_}
-use Prim.Native.Nat.{ℕ, zero, suc, _<_, _≤_}
+use Prim.Native.Nat.{ℕ, zero, suc, _<_, max}
 use native.Mathlib.Omega.{arith}
-use native.Mathlib.Nat.{le-of-suc-le-suc, not-suc-le-zero}
-use borrow.Author.Tests.{eq-eqb, ne-eqb}
-use lib.Dec.{eqb}
+use borrow.Author.Tests.{leb-true, leb-false, eq-eqb, ne-eqb}
+use lib.Dec.{leb, eqb}
 use lib.ListN.{take}
-use Rattle.wac.specs.Limits.{keys, identifiers, delegate, access, subjectIds, unused}
+use Rattle.wac.specs.Limits.{keys, identifiers, delegate, access, unused}
 use Rattle.wac.specs.Bytes.{AreBytes}
 use Rattle.wac.specs.Record.{IsName, IsAuthorization, Lawful as LawfulCert}
 use Rattle.wac.specs.File.{countOf, recordAt, placeOf, certAt}
@@ -18,9 +17,10 @@ use Rattle.wac.proofs.RecordLaws.{drop-bytes, bytes-dated}
 use Rattle.wac.proofs.FileLaws.{accepted-iff-lawful}
 use Rattle.rewriting.specs.Weighing.{minutes}
 use Rattle.rewriting.specs.Entries.{Names, Closes, Mark, Certificate, Lawful}
+use Rattle.rewriting.specs.Steps.{kept}
 use Rattle.rewriting.proofs.Steps.{kept-lawful}
-use Rattle.decision.specs.Usable.{symbolsOf, ruleOf, rulesOf}
-use Rattle.decision.specs.Lens.{questionBy, rulesBy}
+use Rattle.decision.specs.Usable.{usable, symbolsOf, ruleOf, rulesOf}
+use Rattle.decision.specs.Lens.{questionBy, rulesBy, liveBy, weightBy}
 use Rattle.decision.specs.Engine.{Accepted}
 use Rattle.decision.specs.declared.request.Request.{Request}
 use Rattle.decision.specs.declared.lens.Lens.{Lens}
@@ -73,3 +73,32 @@ rules-lawful lens s q bytes ok asker = turn lens
     turn : (lens : Lens) → Lawful (questionBy lens (q .asker)) (rulesBy lens s q)
     turn Minutes = by-minutes
     turn (Steps floor) = kept-lawful by-minutes minutes floor
+
+-- a test for the greater of two
+max-test : (m w : ℕ) → eqb (max m w) w ≡ leb m w
+max-test m w = turn (leb m w) refl
+  where
+    turn : (b : Bool) → leb m w ≡ b → eqb (max m w) w ≡ b
+    turn true e = let h = leb-true m w e in eq-eqb (max m w) w (omega arith)
+    turn false e = let h = leb-false m w e in ne-eqb (max m w) w (λ q. omega arith)
+
+-- the rules that a lens sees, by the file's certificates
+pub rules-count : (lens : Lens) (s : List ℕ) (q : Request) → rulesBy lens s q .count ≡ countOf s
+unfolding rulesOf kept
+rules-count Minutes s q = refl
+rules-count (Steps floor) s q = refl
+
+pub rules-rule : (lens : Lens) (s : List ℕ) (q : Request) (i : ℕ) → rulesBy lens s q .rule i ≡ ruleOf (certAt s i)
+unfolding rulesOf kept
+rules-rule Minutes s q i = refl
+rules-rule (Steps floor) s q i = refl
+
+pub rules-weight : (lens : Lens) (s : List ℕ) (q : Request) (i : ℕ) → rulesBy lens s q .weight i ≡ weightBy lens (certAt s i)
+unfolding rulesOf kept
+rules-weight Minutes s q i = refl
+rules-weight (Steps floor) s q i = refl
+
+pub rules-live : (lens : Lens) (s : List ℕ) (q : Request) (i : ℕ) → rulesBy lens s q .live i ≡ liveBy lens q (certAt s i)
+unfolding rulesOf kept minutes
+rules-live Minutes s q i = refl
+rules-live (Steps floor) s q i = ap (λ b. usable q (certAt s i) && b) (max-test floor (certAt s i .«not_after»))

@@ -78,6 +78,17 @@ module _ (k s a : ℕ) where
           let more = ltb-false s identifiers e in
           is-entry k s a (h, inr (by-cases (ℕ-discrete s 10) inl (λ n. inr (omega arith)), omega arith))
 
+-- an entry of an identifier arrives at a key, and one of a mark at the end place
+pub name-entry : (k s a : ℕ) → isEntry k s a ≡ true → s < identifiers → (k < keys) × (a < keys)
+name-entry k s a t h =
+    let e = entry-of k s a t in
+    (e .0, ⊎-elim (λ n. n .1) (λ m. absurd (omega (arith, mark-low s (m .0)))) (e .1))
+
+pub mark-entry : (k s a : ℕ) → isEntry k s a ≡ true → identifiers ≤ s → (k < keys) × (s ≤ access) × (a ≡ endPlace)
+mark-entry k s a t h =
+    let e = entry-of k s a t in
+    ⊎-elim (λ n. absurd (omega (arith, n .0))) (λ m. (e .0, mark-high s (m .0), m .1)) (e .1)
+
 -- the number of an entry of an identifier, and of a mark
 pub number-named : (k s a : ℕ) → s < identifiers → number k s a ≡ (k * 10 + s) * 16 + a
 unfolding number

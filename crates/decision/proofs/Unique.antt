@@ -1,9 +1,9 @@
 -- Two results that meet a contract are the same, but for which of the shortest best chains is written.
 use mathlib.Core.Path.{_≡_, refl, sym, ap, _∙_, subst}
 use mathlib.Core.Bool.{Bool, true, false, cond}
-use mathlib.Core.List.{List, [], _∷_, _++_}
-use mathlib.Core.Logic.{inl, inr, ⊎-elim}
-use Prim.Native.Nat.{ℕ, _+_, _-_, _<_, _≤_}
+use mathlib.Core.List.{List, _++_}
+use mathlib.Core.Logic.{inl}
+use Prim.Native.Nat.{ℕ, _+_, _-_, _<_}
 use native.Mathlib.Omega.{arith}
 use lib.Dec.{eqb, ltb}
 use lib.ListN.{length, getD, take, drop, take-append-drop}
@@ -15,13 +15,10 @@ use Rattle.wac.specs.File.{countOf, fileCases}
 use Rattle.wac.specs.declared.refusal.Refusal.the-variants.{Short, NotWac, Version, TooMany, Length, Against, Room, NoSuch}
 use Rattle.wac.proofs.Cases.{gives-not-refuses}
 use Rattle.wac.proofs.Unique.{told-apart, refusal-of, refusal-back}
-use Rattle.rewriting.specs.Rewriting.{Best}
 use Rattle.rewriting.proofs.Answers.{answer-unique}
 use Rattle.rewriting.proofs.Settling.{count-unique}
 use Rattle.rewriting.proofs.Steps.{fewest-unique}
-use Rattle.decision.specs.Usable.{rulesOf}
-use Rattle.decision.specs.Table.{number, keyOf, symbolOf, arrivalOf}
-use Rattle.decision.specs.Question.{requestCases, Admits, admittedAs, refusedAs, requestOf, asked, MinutesHeld, StepsHeld, Counted, Counted.counted, Counted.uncountable, Answered, Answered.granted, Answered.denied, Judged, Judged.refused, Judged.answered, Shows, Stocks, Settles}
+use Rattle.decision.specs.Question.{requestCases, Admits, admittedAs, refusedAs, MinutesHeld, StepsHeld, Counted, Counted.counted, Counted.uncountable, Answered, Answered.granted, Answered.denied, Judged, Judged.refused, Judged.answered, Shows, Stocks, Settles}
 use Rattle.decision.specs.declared.request.Request.{Request}
 use Rattle.decision.specs.declared.question.Refused.{Refused}
 use Rattle.decision.specs.declared.question.Refused.the-variants.{File, Keys, Rights, Minute, Places}

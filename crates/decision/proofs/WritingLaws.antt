@@ -1,71 +1,39 @@
--- Laws of writing out the chain: what is fetched from an accepted file, which certificate brings an entry about, and lists written one after the other.
-use mathlib.Core.Path.{_≡_, refl, sym, ap, ap₂, _∙_, fun-ext, subst}
+-- Laws of writing out the chain: which certificate brings an entry about, and lists written one after the other.
+use mathlib.Core.Path.{_≡_, refl, sym, ap, ap₂, _∙_, subst}
 use mathlib.Core.Logic.{_⊎_, inl, inr, ⊎-elim, by-cases}
-use mathlib.Core.Bool.{Bool, true, false, cond, _&&_, not, true≢false}
+use mathlib.Core.Bool.{Bool, true, false, _&&_, true≢false}
 use mathlib.Core.List.{List, [], _∷_, _++_, append-nil, append-assoc}
-use Prim.Native.Nat.{ℕ, suc, _+_, _%_, _<_, _≤_, min, max}
+use Prim.Native.Nat.{ℕ, suc, _+_, _%_, _<_, _≤_, min}
 use native.Mathlib.Nat.{add-zero, add-suc, suc-add}
 use native.Mathlib.Numerals.{add-one}
 use native.Mathlib.Omega.{arith}
 use native.Mathlib.Decide.{ℕ-discrete}
-use borrow.Author.Tests.{leb-true, leb-false, lt-leb, eq-eqb, ne-eqb, eqb-true}
-use lib.Dec.{leb, eqb}
-use lib.ListN.{length, getD, take, drop, set, length-append, length-take}
+use borrow.Author.Tests.{eq-eqb, ne-eqb, eqb-true}
+use lib.Dec.{eqb}
+use lib.ListN.{length, getD, take, drop, set, length-append}
 use lib.Seq.{sets, length-sets, drop-cons, drop-length, take-suc, take-length}
-use Rattle.wac.specs.Limits.{keys, chainPlaces, endPlace, unused}
-use Rattle.wac.specs.Answers.{gives, firstOf}
-use Rattle.wac.specs.Record.{Lawful as LawfulCert}
-use Rattle.wac.specs.File.{countOf, certAt, frameCases}
-use Rattle.wac.specs.View.{numberCases, fetchCases, fetched, InRanges, FetchedFrom}
+use Rattle.wac.specs.Limits.{keys, chainPlaces, endPlace}
+use Rattle.wac.specs.File.{countOf, certAt}
 use Rattle.wac.specs.declared.cert.Cert.{Cert}
-use Rattle.wac.specs.declared.refusal.Refusal.{Refusal}
-use Rattle.wac.specs.declared.view.Fetched.{Fetched}
-use Rattle.wac.specs.declared.view.Fetched.the-variants.{Certificate, Refused}
-use Rattle.wac.proofs.Cases.{first-none, first-fails, first-given, gives-injective, gives-not-refuses}
-use Rattle.wac.proofs.FileLaws.{file-kept, framed-accepted}
+use Rattle.wac.proofs.FileLaws.{file-kept}
 use Rattle.rewriting.specs.Weighing.{minutes, steps, uncounted}
 use Rattle.rewriting.specs.Rewriting.{Rules, Question}
 use Rattle.rewriting.specs.Entries.{Mark, Lawful, Brings, Reads, asked, by, stays, goes}
-use Rattle.rewriting.specs.Passes.{Table, over, reading, fires}
+use Rattle.rewriting.specs.Passes.{Table, reading, fires}
 use Rattle.rewriting.specs.Steps.{by-steps, kept}
 use Rattle.rewriting.proofs.Tests.{by-test, both-true}
 use Rattle.rewriting.proofs.Passing.{over-from, fires-fact, fires-test}
 use Rattle.rewriting.proofs.Complete.{start-mark}
 use Rattle.rewriting.proofs.WriteOut.{steps-entry, steps-nothing, steps-symbol}
-use Rattle.decision.specs.Usable.{usable, symbolsOf, rulesOf}
-use Rattle.decision.specs.Lens.{weighingOf, questionBy, rulesBy, liveBy}
+use Rattle.decision.specs.Usable.{symbolsOf, rulesOf}
+use Rattle.decision.specs.Lens.{questionBy, rulesBy, liveBy}
 use Rattle.decision.specs.Table.{isEntry, tableOf}
 use Rattle.decision.specs.Engine.{Accepted, Within, held}
 use Rattle.decision.specs.Writing.{stepsAt, stepsRead, StepsTable, brings, Bringing, Wrote, Entered, ReadBy}
 use Rattle.decision.specs.declared.request.Request.{Request}
-use Rattle.decision.specs.declared.lens.Lens.{Lens}
 use Rattle.decision.specs.declared.lens.Lens.the-variants.{Minutes, Steps}
-
--- an accepted file gives each certificate below its count
-fetch-gives : (s : List ℕ) (i : ℕ) → Accepted s → i < countOf s → firstOf (fetchCases s i) (certAt s i) ≡ gives (certAt s i)
-unfolding fetchCases numberCases
-fetch-gives s i ok below =
-    let kept = file-kept s ok in
-    first-given (frameCases s) _ (countOf s) (certAt s i) (framed-accepted s (kept .0))
-    ∙ first-fails _ _ _ (lt-leb _ _ below)
-    ∙ first-fails _ _ _ (ap not (kept .2 i below))
-    ∙ first-none _
-
-module _ {s : List ℕ} {i : ℕ} {r : Fetched} (ok : Accepted s) (below : i < countOf s) (found : FetchedFrom s i r) where
-  -- so what is fetched there is that certificate, and lawful,
-  pub fetched-cert : {c : Cert} → r ≡ Certificate c → (c ≡ certAt s i) × LawfulCert c
-  fetched-cert e = (gives-injective (sym (ap fetched e) ∙ found .answer ∙ fetch-gives s i ok below), subst InRanges e (found .ranges))
-
-  -- and no refusal
-  pub fetched-refused : {why : Refusal} → r ≡ Refused why → ⊥
-  fetched-refused e = gives-not-refuses (sym (sym (ap fetched e) ∙ found .answer ∙ fetch-gives s i ok below))
-
--- the asker has no part in a reading
-reading-asker : (lens : Lens) (x y : ℕ) (t : Table) (w : List ℕ) (p a : ℕ) → reading (questionBy lens x) t p w a ≡ reading (questionBy lens y) t p w a
-unfolding reading
-reading-asker lens x y t [] p a = refl
-reading-asker lens x y t (s ∷ w) p a =
-    ap (over (weighingOf lens) keys) (fun-ext (λ r. ap (weighingOf lens .along (t p s r)) (reading-asker lens x y t w r a)))
+use Rattle.decision.proofs.RulesLaws.{rules-live}
+use Rattle.decision.proofs.ReadingLaws.{reading-asker}
 
 -- steps go up to 201
 steps-read-fits : (Q : Question) (t : Table) (w : List ℕ) (p a : ℕ) → reading (by-steps Q) t p w a ≤ uncounted
@@ -81,22 +49,6 @@ read-fits floor l c j from to = steps-read-fits (questionBy Minutes 0) (held (St
 pub at-fits : (floor : ℕ) (l : List ℕ) (k x a : ℕ) → Within (Steps floor) l → stepsAt floor l k x a ≤ uncounted
 unfolding tableOf steps
 at-fits floor l k x a w = by-test (λ n. n ≤ uncounted) (isEntry k x a) (λ e. w .fits _) (λ e. omega arith)
-
--- a right side has at most four symbols
-pub symbols-few : (c : Cert) → length (symbolsOf c) ≤ 4
-unfolding symbolsOf
-symbols-few c =
-    let front = take (c .count) (c .ids .0 ∷ c .ids .1 ∷ c .ids .2 ∷ []) in
-    let mark = by-test (λ (w : List ℕ). length w ≤ 1) (eqb (c .mark) unused) {x = []} {y = c .mark ∷ []} (λ e. omega arith) (λ e. omega arith) in
-    omega (arith, length-append front (cond (eqb (c .mark) unused) [] (c .mark ∷ [])), length-take (c .count) (c .ids .0 ∷ c .ids .1 ∷ c .ids .2 ∷ []), mark)
-
--- a weight is at or above the floor
-max-test : (m w : ℕ) → eqb (max m w) w ≡ leb m w
-max-test m w = turn (leb m w) refl
-  where
-    turn : (b : Bool) → leb m w ≡ b → eqb (max m w) w ≡ leb m w
-    turn true e = eq-eqb (max m w) w (omega (arith, leb-true m w e)) ∙ sym e
-    turn false e = ne-eqb (max m w) w (λ (h : max m w ≡ w). omega (arith, leb-false m w e)) ∙ sym e
 
 -- the tests of a certificate that brings an entry about
 abbrev passes : Request → ℕ → List ℕ → Cert → ℕ → ℕ → ℕ → Bool
@@ -122,11 +74,11 @@ three-true a b c d e f g = rw (e, f, g)
 module _ (s : List ℕ) (q : Request) (floor : ℕ) (l : List ℕ) (i k x a : ℕ) (c : Cert) (same : c ≡ certAt s i) where
   -- the definition's tests are these
   brings-tests : brings s q floor l i k x a ≡ passes q floor l c k x a
-  unfolding brings fires kept rulesOf minutes
+  unfolding brings fires kept rulesOf
   brings-tests =
       let d = certAt s i in
       let read = eqb (stepsRead floor l d 0 (d .subject) a + 1) (stepsAt floor l k x a) in
-      ap (λ b. (((usable q d && b) && eqb (d .issuer) k) && eqb (d .left) x) && read) (max-test floor (d .«not_after»))
+      ap (λ b. ((b && eqb (d .issuer) k) && eqb (d .left) x) && read) (rules-live (Steps floor) s q i)
       ∙ ap (λ e. passes q floor l e k x a) (sym same)
 
   -- it does not count

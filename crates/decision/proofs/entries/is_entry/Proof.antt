@@ -1,5 +1,5 @@
 -- `is_entry` meets its contract: the key, then the symbol, then the place.
-use mathlib.Core.Path.{sym, ap, _∙_}
+use mathlib.Core.Path.{sym, _∙_}
 use borrow.Author.Tests.{lt-ltb, le-ltb, le-leb, lt-leb}
 use Rattle.decision.specs.Table.{isEntry}
 use Rattle.decision.proofs.Choices.{when-true, when-false}

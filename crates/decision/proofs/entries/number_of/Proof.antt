@@ -2,7 +2,7 @@
 use native.Mathlib.Omega.{arith}
 use borrow.Author.Tests.{lt-ltb, le-ltb}
 use Rattle.decision.specs.Table.{number}
-use Rattle.decision.proofs.EntryLaws.{name-entry, mark-entry}
+use Rattle.decision.proofs.TableLaws.{name-entry, mark-entry}
 use Rattle.decision.proofs.entries.number_of.Statement.{statement}
 use Rattle.decision.proofs.entries.number_of.Tie as tie
 

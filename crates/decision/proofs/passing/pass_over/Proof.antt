@@ -6,7 +6,8 @@ use native.Mathlib.Omega.{arith}
 use borrow.Author.Needs.{needs}
 use denote.Ref.{now}
 use Rattle.wac.specs.File.{countOf}
-use Rattle.decision.proofs.PassingLaws.{Passing, passing-none, passing-live, passing-dead, passed, fetched-same, fetched-lawful, fetched-refused}
+use Rattle.decision.proofs.FetchLaws.{fetched-lawful, fetched-same, fetched-refused}
+use Rattle.decision.proofs.PassingLaws.{Passing, passing-none, passing-live, passing-dead, passed}
 use Rattle.decision.proofs.passing.pass_over.Statement.{statement}
 use Rattle.decision.proofs.passing.pass_over.Tie as tie
 

@@ -6,7 +6,8 @@ use Rattle.decision.specs.Lens.{weighingOf, weightBy, questionBy}
 use Rattle.decision.specs.Table.{number}
 use Rattle.decision.specs.Usable.{symbolsOf}
 use Rattle.rewriting.specs.Passes.{reading}
-use Rattle.decision.proofs.PassingLaws.{weight-fits, reading-fits, stored}
+use Rattle.rewriting.proofs.Held.{reading-fits}
+use Rattle.decision.proofs.PassingLaws.{weight-fits, stored}
 use Rattle.decision.proofs.TableLaws.{list-held}
 use Rattle.decision.proofs.passing.try_at.Statement.{statement}
 use Rattle.decision.proofs.passing.try_at.Tie as tie
@@ -34,7 +35,7 @@ joined-requires c κs =
     let a = c .before .before .before .before .before .before .before .before .args in
     let p = c .before .before .before .before .before .before .before .before .pre in (
       rw (c .weight-of .ensures) (weight-fits (a .lens) (a .cert) (p .2)),
-      rw (c .before .read-side .ensures) (reading-fits (questionBy (a .lens) 0) (held (a .lens) (now (a .old))) (list-held (a .lens) 0 (now (a .old)) (p .0) .fits) _ _ _),
+      rw (c .before .read-side .ensures) (reading-fits (questionBy (a .lens) 0) (held (a .lens) (now (a .old))) (list-held (a .lens) 0 (now (a .old)) (p .0)) _ _ _),
     )
 
 mul-better : tie.Need-mul-better

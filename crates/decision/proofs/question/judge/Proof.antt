@@ -15,13 +15,12 @@ start-by-requires c κs = search needs
 settle-by-requires : tie.Need-settle-by-requires
 settle-by-requires c κs =
     let pre = c .before .before .before .before .before .before .before .before .before .before .pre in
-    let args = c .before .before .before .before .before .before .before .before .before .before .args in
     let start-by = c .before .before .before .start-by in
     let ready = pre .0 in (
       ready .accepted,
       ready .counted,
       ready .asker,
-      minutes-start (now (args .file)) (args .request) (λ i. c .before .before .before .before .before .before .before .before .before .shared-slice-known .given i .fits) ready (start-by .last .1 .1 .0) (start-by .kept .1 .1 .0 ∙ pre .1) (start-by .ensures .0),
+      minutes-start (λ i. c .before .before .before .before .before .before .before .before .before .shared-slice-known .given i .fits) ready (start-by .kept .1 .1 .0 ∙ pre .1) (start-by .ensures .0),
     )
 
 cast-weight-at : tie.Need-cast-weight-at
@@ -52,7 +51,7 @@ returns c =
     let start-by = c .before .before .before .before .before .before .before .before .before .before .before .before .before .before .start-by in
     let settle-by = c .before .before .before .before .before .before .before .before .before .before .settle-by in
     let weight-at = c .before .before .before .before .before .weight-at in
-    answered-none (now (args .file)) (args .request) (λ i. c .before .before .before .before .before .before .before .before .before .before .before .before .before .before .before .before .before .before .before .before .shared-slice-known .given i .fits) (pre .0) (now (args .minutes)) (start-by .last .1 .1 .0) (settle-by .last .1 .1 .1 .1 .0) (pre .1) (start-by .kept .1 .1 .0) (start-by .ensures .0) (settle-by .result) (settle-by .ensures) (weight-at .result) (weight-at .ensures) (c .before .before .before .before .if1 .taken) (now (args .steps)) (c .before .before .fill .last .0) (now (args .chain)) (c .before .before .fill .ensures)
+    answered-none (λ i. c .before .before .before .before .before .before .before .before .before .before .before .before .before .before .before .before .before .before .before .before .shared-slice-known .given i .fits) (pre .0) (now (args .minutes)) (pre .1) (start-by .kept .1 .1 .0) (start-by .ensures .0) (settle-by .ensures) (weight-at .ensures) (c .before .before .before .before .if1 .taken) (c .before .before .fill .ensures)
 
 judge-steps-requires : tie.Need-judge-steps-requires
 judge-steps-requires c κs =
@@ -61,7 +60,7 @@ judge-steps-requires c κs =
     let start-by = c .before .before .before .before .before .before .before .before .before .before .before .before .start-by in
     let settle-by = c .before .before .before .before .before .before .before .before .settle-by in
     let weight-at = c .before .before .before .weight-at in (
-      granting (now (args .file)) (args .request) (λ i. c .before .before .before .before .before .before .before .before .before .before .before .before .before .before .before .before .before .before .shared-slice-known .given i .fits) (pre .0) (now (args .minutes)) (start-by .last .1 .1 .0) (settle-by .last .1 .1 .1 .1 .0) (pre .1) (start-by .kept .1 .1 .0) (start-by .ensures .0) (settle-by .result) (settle-by .ensures) (weight-at .result) (weight-at .ensures) (c .before .before .if1 .left),
+      granting (λ i. c .before .before .before .before .before .before .before .before .before .before .before .before .before .before .before .before .before .before .shared-slice-known .given i .fits) (pre .0) (now (args .minutes)) (pre .1) (start-by .kept .1 .1 .0) (start-by .ensures .0) (settle-by .ensures) (weight-at .ensures) (c .before .before .if1 .left),
       pre .2,
       pre .3,
     )
@@ -83,10 +82,8 @@ returns-2 c =
     let settle-by = c .before .before .before .before .before .before .before .before .before .before .before .before .before .settle-by in
     let weight-at = c .before .before .before .before .before .before .before .before .weight-at in
     let judge-steps = c .before .before .before .before .judge-steps in
-    answered-granted (now (args .file)) (args .request) (λ i. c .before .before .before .before .before .before .before .before .before .before .before .before .before .before .before .before .before .before .before .before .before .before .before .shared-slice-known .given i .fits) (pre .0) (now (args .minutes)) (start-by .last .1 .1 .0) (settle-by .last .1 .1 .1 .1 .0) (pre .1) (start-by .kept .1 .1 .0) (start-by .ensures .0) (settle-by .result) (settle-by .ensures)
-    (weight-at .result) (weight-at .ensures) (c .before .before .before .before .before .before .before .if1 .left) (judge-steps .result)
-    (now (args .steps)) (judge-steps .last .1 .1 .1 .1 .1 .0) (now (args .chain)) (judge-steps .last .1 .1 .1 .1 .1 .1 .0)
-    (judge-steps .ensures)
+    answered-granted (λ i. c .before .before .before .before .before .before .before .before .before .before .before .before .before .before .before .before .before .before .before .before .before .before .before .shared-slice-known .given i .fits) (pre .0) (now (args .minutes)) (pre .1) (start-by .kept .1 .1 .0) (start-by .ensures .0) (settle-by .ensures)
+    (weight-at .ensures) (c .before .before .before .before .before .before .before .if1 .left) (judge-steps .ensures)
 
 pub judge-spec : {M : Type 1} → statement M
 judge-spec =

@@ -19,13 +19,12 @@ start-by-requires c κs = search needs
 settle-by-requires : tie.Need-settle-by-requires
 settle-by-requires c κs =
     let pre = c .before .before .before .before .before .before .before .before .before .before .pre in
-    let args = c .before .before .before .before .before .before .before .before .before .before .args in
     let start-by = c .before .before .before .start-by in
     let g = pre .0 in (
       g .ready .accepted,
       g .ready .counted,
       g .ready .asker,
-      steps-start (now (args .file)) (args .request) (λ i. c .before .before .before .before .before .before .before .before .before .shared-slice-known .given i .fits) g (start-by .last .1 .1 .0) (start-by .kept .1 .1 .0 ∙ pre .1) (start-by .ensures .0),
+      steps-start (λ i. c .before .before .before .before .before .before .before .before .before .shared-slice-known .given i .fits) g (start-by .kept .1 .1 .0 ∙ pre .1) (start-by .ensures .0),
     )
 
 weight-at-requires : tie.Need-weight-at-requires
@@ -43,7 +42,7 @@ returns c =
     let pre = c .before .before .before .before .before .before .before .before .before .before .before .before .before .before .before .before .pre in
     let start-by = c .before .before .before .before .before .before .before .before .before .start-by in
     let settle-by = c .before .before .before .before .before .settle-by in
-    counted-long (now (args .file)) (args .request) (λ i. c .before .before .before .before .before .before .before .before .before .before .before .before .before .before .before .shared-slice-known .given i .fits) (pre .0) (now (args .steps)) (start-by .last .1 .1 .0) (settle-by .last .1 .1 .1 .1 .0) (pre .1) (start-by .kept .1 .1 .0) (start-by .ensures .0) (settle-by .result) (settle-by .ensures) (args .passes) (c .before .weight-at .result) (now (args .chain)) (c .before .weight-at .ensures) (c .if1 .taken)
+    counted-long (λ i. c .before .before .before .before .before .before .before .before .before .before .before .before .before .before .before .shared-slice-known .given i .fits) (pre .0) (now (args .steps)) (pre .1) (start-by .kept .1 .1 .0) (start-by .ensures .0) (settle-by .ensures) (c .before .weight-at .ensures) (c .if1 .taken)
 
 expand-entry-requires : tie.Need-expand-entry-requires
 expand-entry-requires c κs =
@@ -51,7 +50,7 @@ expand-entry-requires c κs =
     let pre = c .before .before .before .before .before .before .before .before .before .before .before .before .before .before .before .before .before .before .pre in
     let start-by = c .before .before .before .before .before .before .before .before .before .before .before .start-by in
     let settle-by = c .before .before .before .before .before .before .before .settle-by in
-    let table = steps-table (now (args .file)) (args .request) (λ i. c .before .before .before .before .before .before .before .before .before .before .before .before .before .before .before .before .before .shared-slice-known .given i .fits) (pre .0) (now (args .steps)) (start-by .last .1 .1 .0) (settle-by .last .1 .1 .1 .1 .0) (pre .1) (start-by .kept .1 .1 .0) (start-by .ensures .0) (settle-by .result) (settle-by .ensures) in
+    let table = steps-table (λ i. c .before .before .before .before .before .before .before .before .before .before .before .before .before .before .before .before .before .shared-slice-known .given i .fits) (pre .0) (now (args .steps)) (pre .1) (start-by .kept .1 .1 .0) (start-by .ensures .0) (settle-by .ensures) in
     let same = c .before .before .before .weight-at .ensures in
     (table, pre .0 .ready .counted, rw same at (c .before .before .if1 .left), omega arith)
 
@@ -68,8 +67,7 @@ returns-2 c =
     let start-by = c .before .before .before .before .before .before .before .before .before .before .before .before .before .before .start-by in
     let settle-by = c .before .before .before .before .before .before .before .before .before .before .settle-by in
     let weight-at = c .before .before .before .before .before .before .weight-at in
-    counted-short (now (args .file)) (args .request) (λ i. c .before .before .before .before .before .before .before .before .before .before .before .before .before .before .before .before .before .before .before .before .shared-slice-known .given i .fits) (pre .0) (now (args .steps)) (start-by .last .1 .1 .0) (settle-by .last .1 .1 .1 .1 .0) (pre .1) (start-by .kept .1 .1 .0) (start-by .ensures .0) (settle-by .result) (settle-by .ensures)
-    (args .passes) (weight-at .result) (now (args .chain)) (c .before .before .expand-entry .last .1 .1 .1 .1 .1 .0) (c .before .before .expand-entry .result)
+    counted-short (λ i. c .before .before .before .before .before .before .before .before .before .before .before .before .before .before .before .before .before .before .before .before .shared-slice-known .given i .fits) (pre .0) (now (args .steps)) (pre .1) (start-by .kept .1 .1 .0) (start-by .ensures .0) (settle-by .ensures)
     (weight-at .ensures) (c .before .before .before .before .before .if1 .left) (c .before .before .expand-entry .ensures)
 
 pub judge-steps-spec : {M : Type 1} → statement M

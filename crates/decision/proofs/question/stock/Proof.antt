@@ -1,6 +1,6 @@
 -- `stock` meets its contract: the read screen for each key, or the refusal of the first.
 use mathlib.Core.Logic.{⊎-elim}
-use mathlib.Core.Path.{_≡_, refl, sym, ap, _∙_, subst}
+use mathlib.Core.Path.{_≡_, refl, sym, _∙_, subst}
 use Prim.Native.Nat.{_<_, _%_, _-_}
 use native.Mathlib.Omega.{arith}
 use borrow.Author.Needs.{needs}

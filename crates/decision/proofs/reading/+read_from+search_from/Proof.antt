@@ -13,8 +13,7 @@ use Rattle.decision.specs.Lens.{weighingOf, questionBy}
 use Rattle.decision.specs.Engine.{held}
 use Rattle.decision.proofs.Choices.{when-true, when-false}
 use Rattle.decision.proofs.TableLaws.{list-held}
-use Rattle.decision.proofs.WritingLaws.{symbols-few}
-use Rattle.decision.proofs.ReadingLaws.{upTo, upTo-over, upTo-same, upTo-more, through, through-fits, through-lost, read-past, read-symbol, read-last}
+use Rattle.decision.proofs.ReadingLaws.{symbols-few, upTo, upTo-over, upTo-same, upTo-more, through, through-fits, through-lost, read-past, read-symbol, read-last}
 use Prim.Native.Nat.{ℕ, _+_, _-_, _*_, _≤_, _<_}
 use borrow.Fn.Kinds.{In}
 use borrow.Fn.PlainCycle.{Measures, is, falls, and}
@@ -55,7 +54,9 @@ abbrev search-from-below : ℕ → In 1 search-from-kinds.ps
 search-from-below t =
     and 1 search-from-kinds.ps (falls 1 search-from-kinds.ps _<_ μ-search-from t) search-from.Pre
 
-read-from-symbols-in-requires : (t : ℕ) → read-from-lts.Need-symbols-in-requires (
+-- what each of the two knows of the functions that it calls
+abbrev read-from-claims : ℕ → read-from-lts.Claims
+read-from-claims t = (
   symbols-in-reads.Asked,
   symbols-in-reads.Learnt,
   whole-of-reads.Asked,
@@ -68,39 +69,31 @@ read-from-symbols-in-requires : (t : ℕ) → read-from-lts.Need-symbols-in-requ
   weight-at-reads.Learnt,
   search-from-below t,
   search-from.Post,
-) (read-from-at t) read-from.Post
+)
+
+abbrev search-from-claims : ℕ → search-from-lts.Claims
+search-from-claims t = (
+  symbol-at-reads.Asked,
+  symbol-at-reads.Learnt,
+  none-of-reads.Asked,
+  none-of-reads.Learnt,
+  weight-at-reads.Asked,
+  weight-at-reads.Learnt,
+  read-from-below t,
+  read-from.Post,
+  joined-reads.Asked,
+  joined-reads.Learnt,
+  better-reads.Asked,
+  better-reads.Learnt,
+)
+
+read-from-symbols-in-requires : (t : ℕ) → read-from-lts.Need-symbols-in-requires (read-from-claims t) (read-from-at t) read-from.Post
 read-from-symbols-in-requires t c κs = c .before .pre .1 .1
 
-read-from-whole-of-requires : (t : ℕ) → read-from-lts.Need-whole-of-requires (
-  symbols-in-reads.Asked,
-  symbols-in-reads.Learnt,
-  whole-of-reads.Asked,
-  whole-of-reads.Learnt,
-  none-of-reads.Asked,
-  none-of-reads.Learnt,
-  symbol-at-reads.Asked,
-  symbol-at-reads.Learnt,
-  weight-at-reads.Asked,
-  weight-at-reads.Learnt,
-  search-from-below t,
-  search-from.Post,
-) (read-from-at t) read-from.Post
+read-from-whole-of-requires : (t : ℕ) → read-from-lts.Need-whole-of-requires (read-from-claims t) (read-from-at t) read-from.Post
 read-from-whole-of-requires t c κs = search needs
 
-read-from-returns : (t : ℕ) → read-from-lts.Need-returns (
-  symbols-in-reads.Asked,
-  symbols-in-reads.Learnt,
-  whole-of-reads.Asked,
-  whole-of-reads.Learnt,
-  none-of-reads.Asked,
-  none-of-reads.Learnt,
-  symbol-at-reads.Asked,
-  symbol-at-reads.Learnt,
-  weight-at-reads.Asked,
-  weight-at-reads.Learnt,
-  search-from-below t,
-  search-from.Post,
-) (read-from-at t) read-from.Post
+read-from-returns : (t : ℕ) → read-from-lts.Need-returns (read-from-claims t) (read-from-at t) read-from.Post
 read-from-returns t c =
     let begun = c .before .before .before .before .before in
     let x = begun .args in
@@ -109,36 +102,10 @@ read-from-returns t c =
     (read-past (questionBy (x .lens) 0) (held (x .lens) (now (x .old))) (list-held (x .lens) 0 (now (x .old)) (begun .pre .1 .0)) (symbolsOf (x .cert)) (x .j) (x .from) (x .to) (rw (c .before .before .before .symbols-in .ensures .0) at (c .before .before .if1 .taken))
     ∙ when-true _ _ _ (eq-eqb _ _ (c .before .if2 .taken)))
 
-read-from-none-of-requires : (t : ℕ) → read-from-lts.Need-none-of-requires (
-  symbols-in-reads.Asked,
-  symbols-in-reads.Learnt,
-  whole-of-reads.Asked,
-  whole-of-reads.Learnt,
-  none-of-reads.Asked,
-  none-of-reads.Learnt,
-  symbol-at-reads.Asked,
-  symbol-at-reads.Learnt,
-  weight-at-reads.Asked,
-  weight-at-reads.Learnt,
-  search-from-below t,
-  search-from.Post,
-) (read-from-at t) read-from.Post
+read-from-none-of-requires : (t : ℕ) → read-from-lts.Need-none-of-requires (read-from-claims t) (read-from-at t) read-from.Post
 read-from-none-of-requires t c κs = search needs
 
-read-from-returns-2 : (t : ℕ) → read-from-lts.Need-returns-2 (
-  symbols-in-reads.Asked,
-  symbols-in-reads.Learnt,
-  whole-of-reads.Asked,
-  whole-of-reads.Learnt,
-  none-of-reads.Asked,
-  none-of-reads.Learnt,
-  symbol-at-reads.Asked,
-  symbol-at-reads.Learnt,
-  weight-at-reads.Asked,
-  weight-at-reads.Learnt,
-  search-from-below t,
-  search-from.Post,
-) (read-from-at t) read-from.Post
+read-from-returns-2 : (t : ℕ) → read-from-lts.Need-returns-2 (read-from-claims t) (read-from-at t) read-from.Post
 read-from-returns-2 t c =
     let begun = c .before .before .before .before .before in
     let x = begun .args in
@@ -147,68 +114,16 @@ read-from-returns-2 t c =
     (read-past (questionBy (x .lens) 0) (held (x .lens) (now (x .old))) (list-held (x .lens) 0 (now (x .old)) (begun .pre .1 .0)) (symbolsOf (x .cert)) (x .j) (x .from) (x .to) (rw (c .before .before .before .symbols-in .ensures .0) at (c .before .before .if1 .taken))
     ∙ when-false _ _ _ (ne-eqb _ _ (c .before .if2 .left)))
 
-read-from-add-if3 : (t : ℕ) → read-from-lts.Need-add-if3 (
-  symbols-in-reads.Asked,
-  symbols-in-reads.Learnt,
-  whole-of-reads.Asked,
-  whole-of-reads.Learnt,
-  none-of-reads.Asked,
-  none-of-reads.Learnt,
-  symbol-at-reads.Asked,
-  symbol-at-reads.Learnt,
-  weight-at-reads.Asked,
-  weight-at-reads.Learnt,
-  search-from-below t,
-  search-from.Post,
-) (read-from-at t) read-from.Post
+read-from-add-if3 : (t : ℕ) → read-from-lts.Need-add-if3 (read-from-claims t) (read-from-at t) read-from.Post
 read-from-add-if3 t c = omega arith
 
-read-from-symbol-at-requires : (t : ℕ) → read-from-lts.Need-symbol-at-requires (
-  symbols-in-reads.Asked,
-  symbols-in-reads.Learnt,
-  whole-of-reads.Asked,
-  whole-of-reads.Learnt,
-  none-of-reads.Asked,
-  none-of-reads.Learnt,
-  symbol-at-reads.Asked,
-  symbol-at-reads.Learnt,
-  weight-at-reads.Asked,
-  weight-at-reads.Learnt,
-  search-from-below t,
-  search-from.Post,
-) (read-from-at t) read-from.Post
+read-from-symbol-at-requires : (t : ℕ) → read-from-lts.Need-symbol-at-requires (read-from-claims t) (read-from-at t) read-from.Post
 read-from-symbol-at-requires t c κs = (c .before .before .before .before .pre .1 .1, rw (c .before .before .symbols-in .ensures .0) at (c .before .if1 .left))
 
-read-from-weight-at-requires : (t : ℕ) → read-from-lts.Need-weight-at-requires (
-  symbols-in-reads.Asked,
-  symbols-in-reads.Learnt,
-  whole-of-reads.Asked,
-  whole-of-reads.Learnt,
-  none-of-reads.Asked,
-  none-of-reads.Learnt,
-  symbol-at-reads.Asked,
-  symbol-at-reads.Learnt,
-  weight-at-reads.Asked,
-  weight-at-reads.Learnt,
-  search-from-below t,
-  search-from.Post,
-) (read-from-at t) read-from.Post
+read-from-weight-at-requires : (t : ℕ) → read-from-lts.Need-weight-at-requires (read-from-claims t) (read-from-at t) read-from.Post
 read-from-weight-at-requires t c κs = c .before .before .before .before .before .pre .1 .0 .long
 
-read-from-returns-3 : (t : ℕ) → read-from-lts.Need-returns-3 (
-  symbols-in-reads.Asked,
-  symbols-in-reads.Learnt,
-  whole-of-reads.Asked,
-  whole-of-reads.Learnt,
-  none-of-reads.Asked,
-  none-of-reads.Learnt,
-  symbol-at-reads.Asked,
-  symbol-at-reads.Learnt,
-  weight-at-reads.Asked,
-  weight-at-reads.Learnt,
-  search-from-below t,
-  search-from.Post,
-) (read-from-at t) read-from.Post
+read-from-returns-3 : (t : ℕ) → read-from-lts.Need-returns-3 (read-from-claims t) (read-from-at t) read-from.Post
 read-from-returns-3 t c =
     let begun = c .before .before .before .before .before .before in
     let x = begun .args in
@@ -216,39 +131,13 @@ read-from-returns-3 t c =
     ∙ ap (λ s. held (x .lens) (now (x .old)) (x .from) s (x .to)) (c .before .symbol-at .ensures)
     ∙ sym (read-last (questionBy (x .lens) 0) (held (x .lens) (now (x .old))) (list-held (x .lens) 0 (now (x .old)) (begun .pre .1 .0)) (symbolsOf (x .cert)) (x .j) (x .from) (x .to) (sym (c .before .before .before .before .symbols-in .ensures .0) ∙ c .before .before .if3 .taken))
 
-read-from-search-from-requires : (t : ℕ) → read-from-lts.Need-search-from-requires (
-  symbols-in-reads.Asked,
-  symbols-in-reads.Learnt,
-  whole-of-reads.Asked,
-  whole-of-reads.Learnt,
-  none-of-reads.Asked,
-  none-of-reads.Learnt,
-  symbol-at-reads.Asked,
-  symbol-at-reads.Learnt,
-  weight-at-reads.Asked,
-  weight-at-reads.Learnt,
-  search-from-below t,
-  search-from.Post,
-) (read-from-at t) read-from.Post
+read-from-search-from-requires : (t : ℕ) → read-from-lts.Need-search-from-requires (read-from-claims t) (read-from-at t) read-from.Post
 read-from-search-from-requires t c κs =
     let pre = c .before .before .before .before .pre in
     let size = c .before .before .symbols-in .ensures .0 in
     (omega (arith, pre .0), (pre .1 .0, pre .1 .1, omega (arith, size, c .before .if1 .left, c .if3 .left)))
 
-read-from-returns-4 : (t : ℕ) → read-from-lts.Need-returns-4 (
-  symbols-in-reads.Asked,
-  symbols-in-reads.Learnt,
-  whole-of-reads.Asked,
-  whole-of-reads.Learnt,
-  none-of-reads.Asked,
-  none-of-reads.Learnt,
-  symbol-at-reads.Asked,
-  symbol-at-reads.Learnt,
-  weight-at-reads.Asked,
-  weight-at-reads.Learnt,
-  search-from-below t,
-  search-from.Post,
-) (read-from-at t) read-from.Post
+read-from-returns-4 : (t : ℕ) → read-from-lts.Need-returns-4 (read-from-claims t) (read-from-at t) read-from.Post
 read-from-returns-4 t c = c .search-from .ensures
 
 abbrev search-from-Inv-loop : search-from-lts.InvT-loop
@@ -258,186 +147,43 @@ search-from-Inv-loop lens old cert j from to symbol none best₀ place₀ best p
 abbrev search-from-μ-loop : search-from-lts.MeasureT-loop
 search-from-μ-loop lens old cert j from to symbol none best₀ place₀ best place = 17 - place
 
-search-from-symbol-at-requires : (t : ℕ) → search-from-lts.Need-symbol-at-requires (
-  symbol-at-reads.Asked,
-  symbol-at-reads.Learnt,
-  none-of-reads.Asked,
-  none-of-reads.Learnt,
-  weight-at-reads.Asked,
-  weight-at-reads.Learnt,
-  read-from-below t,
-  read-from.Post,
-  joined-reads.Asked,
-  joined-reads.Learnt,
-  better-reads.Asked,
-  better-reads.Learnt,
-) (search-from-at t) search-from.Post search-from-Inv-loop search-from-μ-loop
+search-from-symbol-at-requires : (t : ℕ) → search-from-lts.Need-symbol-at-requires (search-from-claims t) (search-from-at t) search-from.Post search-from-Inv-loop search-from-μ-loop
 search-from-symbol-at-requires t c κs = (c .before .pre .1 .1, omega (arith, c .before .pre .1 .2))
 
-search-from-none-of-requires : (t : ℕ) → search-from-lts.Need-none-of-requires (
-  symbol-at-reads.Asked,
-  symbol-at-reads.Learnt,
-  none-of-reads.Asked,
-  none-of-reads.Learnt,
-  weight-at-reads.Asked,
-  weight-at-reads.Learnt,
-  read-from-below t,
-  read-from.Post,
-  joined-reads.Asked,
-  joined-reads.Learnt,
-  better-reads.Asked,
-  better-reads.Learnt,
-) (search-from-at t) search-from.Post search-from-Inv-loop search-from-μ-loop
+search-from-none-of-requires : (t : ℕ) → search-from-lts.Need-none-of-requires (search-from-claims t) (search-from-at t) search-from.Post search-from-Inv-loop search-from-μ-loop
 search-from-none-of-requires t c κs = search needs
 
-search-from-loop-holds : (t : ℕ) → search-from-lts.Need-loop-holds (
-  symbol-at-reads.Asked,
-  symbol-at-reads.Learnt,
-  none-of-reads.Asked,
-  none-of-reads.Learnt,
-  weight-at-reads.Asked,
-  weight-at-reads.Learnt,
-  read-from-below t,
-  read-from.Post,
-  joined-reads.Asked,
-  joined-reads.Learnt,
-  better-reads.Asked,
-  better-reads.Learnt,
-) (search-from-at t) search-from.Post search-from-Inv-loop search-from-μ-loop
+search-from-loop-holds : (t : ℕ) → search-from-lts.Need-loop-holds (search-from-claims t) (search-from-at t) search-from.Post search-from-Inv-loop search-from-μ-loop
 unfolding upTo
 search-from-loop-holds t c = (omega arith, c .none-of .ensures)
 
-search-from-weight-at-requires : (t : ℕ) → search-from-lts.Need-weight-at-requires (
-  symbol-at-reads.Asked,
-  symbol-at-reads.Learnt,
-  none-of-reads.Asked,
-  none-of-reads.Learnt,
-  weight-at-reads.Asked,
-  weight-at-reads.Learnt,
-  read-from-below t,
-  read-from.Post,
-  joined-reads.Asked,
-  joined-reads.Learnt,
-  better-reads.Asked,
-  better-reads.Learnt,
-) (search-from-at t) search-from.Post search-from-Inv-loop search-from-μ-loop
+search-from-weight-at-requires : (t : ℕ) → search-from-lts.Need-weight-at-requires (search-from-claims t) (search-from-at t) search-from.Post search-from-Inv-loop search-from-μ-loop
 search-from-weight-at-requires t c κs = c .before .before .before .before .before .pre .1 .0 .long
 
-search-from-add-read-from : (t : ℕ) → search-from-lts.Need-add-read-from (
-  symbol-at-reads.Asked,
-  symbol-at-reads.Learnt,
-  none-of-reads.Asked,
-  none-of-reads.Learnt,
-  weight-at-reads.Asked,
-  weight-at-reads.Learnt,
-  read-from-below t,
-  read-from.Post,
-  joined-reads.Asked,
-  joined-reads.Learnt,
-  better-reads.Asked,
-  better-reads.Learnt,
-) (search-from-at t) search-from.Post search-from-Inv-loop search-from-μ-loop
+search-from-add-read-from : (t : ℕ) → search-from-lts.Need-add-read-from (search-from-claims t) (search-from-at t) search-from.Post search-from-Inv-loop search-from-μ-loop
 search-from-add-read-from t c = let begun = c .before .before .before .before .before .before .before in omega (arith, begun .pre .1 .2, symbols-few (begun .args .cert))
 
-search-from-read-from-requires : (t : ℕ) → search-from-lts.Need-read-from-requires (
-  symbol-at-reads.Asked,
-  symbol-at-reads.Learnt,
-  none-of-reads.Asked,
-  none-of-reads.Learnt,
-  weight-at-reads.Asked,
-  weight-at-reads.Learnt,
-  read-from-below t,
-  read-from.Post,
-  joined-reads.Asked,
-  joined-reads.Learnt,
-  better-reads.Asked,
-  better-reads.Learnt,
-) (search-from-at t) search-from.Post search-from-Inv-loop search-from-μ-loop
+search-from-read-from-requires : (t : ℕ) → search-from-lts.Need-read-from-requires (search-from-claims t) (search-from-at t) search-from.Post search-from-Inv-loop search-from-μ-loop
 search-from-read-from-requires t c κs =
     let pre = c .before .before .before .before .before .before .before .pre in
     (omega (arith, pre .0, pre .1 .2), (pre .1 .0, pre .1 .1, omega (arith, pre .1 .2)))
 
-search-from-joined-requires : (t : ℕ) → search-from-lts.Need-joined-requires (
-  symbol-at-reads.Asked,
-  symbol-at-reads.Learnt,
-  none-of-reads.Asked,
-  none-of-reads.Learnt,
-  weight-at-reads.Asked,
-  weight-at-reads.Learnt,
-  read-from-below t,
-  read-from.Post,
-  joined-reads.Asked,
-  joined-reads.Learnt,
-  better-reads.Asked,
-  better-reads.Learnt,
-) (search-from-at t) search-from.Post search-from-Inv-loop search-from-μ-loop
+search-from-joined-requires : (t : ℕ) → search-from-lts.Need-joined-requires (search-from-claims t) (search-from-at t) search-from.Post search-from-Inv-loop search-from-μ-loop
 search-from-joined-requires t c κs =
     let begun = c .before .before .before .before .before .before .before .before in
     let fine = list-held (begun .args .lens) 0 (now (begun .args .old)) (begun .pre .1 .0) in
     (rw (c .before .before .weight-at .ensures) (fine .fits _ _ _), rw (c .read-from .ensures) (reading-fits _ _ fine _ _ _))
 
-search-from-better-requires : (t : ℕ) → search-from-lts.Need-better-requires (
-  symbol-at-reads.Asked,
-  symbol-at-reads.Learnt,
-  none-of-reads.Asked,
-  none-of-reads.Learnt,
-  weight-at-reads.Asked,
-  weight-at-reads.Learnt,
-  read-from-below t,
-  read-from.Post,
-  joined-reads.Asked,
-  joined-reads.Learnt,
-  better-reads.Asked,
-  better-reads.Learnt,
-) (search-from-at t) search-from.Post search-from-Inv-loop search-from-μ-loop
+search-from-better-requires : (t : ℕ) → search-from-lts.Need-better-requires (search-from-claims t) (search-from-at t) search-from.Post search-from-Inv-loop search-from-μ-loop
 search-from-better-requires t c κs = search needs
 
-search-from-add-place : (t : ℕ) → search-from-lts.Need-add-place (
-  symbol-at-reads.Asked,
-  symbol-at-reads.Learnt,
-  none-of-reads.Asked,
-  none-of-reads.Learnt,
-  weight-at-reads.Asked,
-  weight-at-reads.Learnt,
-  read-from-below t,
-  read-from.Post,
-  joined-reads.Asked,
-  joined-reads.Learnt,
-  better-reads.Asked,
-  better-reads.Learnt,
-) (search-from-at t) search-from.Post search-from-Inv-loop search-from-μ-loop
+search-from-add-place : (t : ℕ) → search-from-lts.Need-add-place (search-from-claims t) (search-from-at t) search-from.Post search-from-Inv-loop search-from-μ-loop
 search-from-add-place t c = omega arith
 
-search-from-loop-less : (t : ℕ) → search-from-lts.Need-loop-less (
-  symbol-at-reads.Asked,
-  symbol-at-reads.Learnt,
-  none-of-reads.Asked,
-  none-of-reads.Learnt,
-  weight-at-reads.Asked,
-  weight-at-reads.Learnt,
-  read-from-below t,
-  read-from.Post,
-  joined-reads.Asked,
-  joined-reads.Learnt,
-  better-reads.Asked,
-  better-reads.Learnt,
-) (search-from-at t) search-from.Post search-from-Inv-loop search-from-μ-loop
+search-from-loop-less : (t : ℕ) → search-from-lts.Need-loop-less (search-from-claims t) (search-from-at t) search-from.Post search-from-Inv-loop search-from-μ-loop
 search-from-loop-less t c = omega arith
 
-search-from-loop-again : (t : ℕ) → search-from-lts.Need-loop-again (
-  symbol-at-reads.Asked,
-  symbol-at-reads.Learnt,
-  none-of-reads.Asked,
-  none-of-reads.Learnt,
-  weight-at-reads.Asked,
-  weight-at-reads.Learnt,
-  read-from-below t,
-  read-from.Post,
-  joined-reads.Asked,
-  joined-reads.Learnt,
-  better-reads.Asked,
-  better-reads.Learnt,
-) (search-from-at t) search-from.Post search-from-Inv-loop search-from-μ-loop
+search-from-loop-again : (t : ℕ) → search-from-lts.Need-loop-again (search-from-claims t) (search-from-at t) search-from.Post search-from-Inv-loop search-from-μ-loop
 search-from-loop-again t c =
     let begun = c .before .before .before .before .before .before .before in
     let x = begun .args in
@@ -463,20 +209,7 @@ search-from-loop-again t c =
           (c .if1 .came),
     )
 
-search-from-returns : (t : ℕ) → search-from-lts.Need-returns (
-  symbol-at-reads.Asked,
-  symbol-at-reads.Learnt,
-  none-of-reads.Asked,
-  none-of-reads.Learnt,
-  weight-at-reads.Asked,
-  weight-at-reads.Learnt,
-  read-from-below t,
-  read-from.Post,
-  joined-reads.Asked,
-  joined-reads.Learnt,
-  better-reads.Asked,
-  better-reads.Learnt,
-) (search-from-at t) search-from.Post search-from-Inv-loop search-from-μ-loop
+search-from-returns : (t : ℕ) → search-from-lts.Need-returns (search-from-claims t) (search-from-at t) search-from.Post search-from-Inv-loop search-from-μ-loop
 search-from-returns t c =
     let begun = c .before .before .before .before .before in
     let x = begun .args in
@@ -489,20 +222,7 @@ search-from-returns t c =
     ∙ sym (read-symbol (questionBy (x .lens) 0) (held (x .lens) (now (x .old))) fine (symbolsOf (x .cert)) (x .j) (x .from) (x .to) (omega (arith, begun .pre .1 .2)))
 
 pub +read-from+search-from-spec : {M : Type 1} → statement M
-+read-from+search-from-spec = close μ-read-from μ-search-from (λ t. read-from-lts.spec (
-  symbols-in-reads.Asked,
-  symbols-in-reads.Learnt,
-  whole-of-reads.Asked,
-  whole-of-reads.Learnt,
-  none-of-reads.Asked,
-  none-of-reads.Learnt,
-  symbol-at-reads.Asked,
-  symbol-at-reads.Learnt,
-  weight-at-reads.Asked,
-  weight-at-reads.Learnt,
-  search-from-below t,
-  search-from.Post,
-)
++read-from+search-from-spec = close μ-read-from μ-search-from (λ t. read-from-lts.spec (read-from-claims t)
     (read-from-at t)
     read-from.Post
     (read-from-symbols-in-requires t)
@@ -516,20 +236,7 @@ pub +read-from+search-from-spec : {M : Type 1} → statement M
     (read-from-returns-3 t)
     (read-from-search-from-requires t)
     (read-from-returns-4 t))
-    λ t. search-from-lts.spec (
-      symbol-at-reads.Asked,
-      symbol-at-reads.Learnt,
-      none-of-reads.Asked,
-      none-of-reads.Learnt,
-      weight-at-reads.Asked,
-      weight-at-reads.Learnt,
-      read-from-below t,
-      read-from.Post,
-      joined-reads.Asked,
-      joined-reads.Learnt,
-      better-reads.Asked,
-      better-reads.Learnt,
-    )
+    λ t. search-from-lts.spec (search-from-claims t)
     (search-from-at t)
     search-from.Post
     search-from-Inv-loop

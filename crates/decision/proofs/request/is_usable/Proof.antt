@@ -1,5 +1,5 @@
 -- `is_usable` meets its contract: the dates, then the rights of an authorization.
-use mathlib.Core.Path.{sym, ap, _∙_}
+use mathlib.Core.Path.{sym, _∙_}
 use borrow.Author.Needs.{needs}
 use borrow.Author.Tests.{eq-eqb, ne-eqb, not-true, not-false}
 use Rattle.decision.specs.Usable.{usable}

@@ -6,7 +6,8 @@ use borrow.Author.Tests.{not-true, not-false}
 use denote.Ref.{now}
 use Rattle.wac.specs.File.{certAt}
 use Rattle.wac.specs.Record.{Lawful}
-use Rattle.decision.proofs.WritingLaws.{fetched-cert, fetched-refused, read-fits, brings-not-live, brings-not-issuer, brings-not-left, brings-steps}
+use Rattle.decision.proofs.FetchLaws.{fetched-lawful, fetched-same, fetched-refused}
+use Rattle.decision.proofs.WritingLaws.{read-fits, brings-not-live, brings-not-issuer, brings-not-left, brings-steps}
 use Rattle.decision.proofs.writing.brings_by.Statement.{statement}
 use Rattle.decision.proofs.writing.brings_by.Tie as tie
 
@@ -16,7 +17,8 @@ known : (c : tie.After-found) →
     × Lawful (c .found .given .0 .0)
 known c =
     let pre = c .before .before .before .before .before .pre in
-    fetched-cert (pre .0 .accepted) (pre .1) (c .before .before .fetch-in .ensures) (c .found .given .1)
+    let from = c .before .before .fetch-in .ensures in
+    (fetched-same from (pre .0 .accepted) (pre .1) (c .found .given .1), fetched-lawful from (c .found .given .1))
 
 fetch-in-requires : tie.Need-fetch-in-requires
 fetch-in-requires c κs = search needs
@@ -30,7 +32,7 @@ enum-told c = search needs
 returns : tie.Need-returns
 returns c =
     let pre = c .before .before .before .before .before .pre in
-    absurd (fetched-refused (pre .0 .accepted) (pre .1) (c .before .before .fetch-in .ensures) (c .enum-told .given .1))
+    absurd (fetched-refused (c .before .before .fetch-in .ensures) (pre .0 .accepted) (pre .1) (c .enum-told .given .1))
 
 is-live-requires : tie.Need-is-live-requires
 is-live-requires c κs = search needs

@@ -5,7 +5,8 @@ use native.Mathlib.Omega.{arith}
 use borrow.Author.Count.{below-none, below-more}
 use denote.Ref.{now}
 use Rattle.wac.specs.Limits.{endPlace}
-use Rattle.decision.proofs.WritingLaws.{Goes, symbols-few, at-fits, read-fits, place-sum, place-other, place-last}
+use Rattle.decision.proofs.ReadingLaws.{symbols-few}
+use Rattle.decision.proofs.WritingLaws.{Goes, at-fits, read-fits, place-sum, place-other, place-last}
 use Rattle.decision.proofs.writing.find_place.Statement.{statement}
 use Rattle.decision.proofs.writing.find_place.Tie as tie
 
