@@ -21,6 +21,10 @@ arrivalsOf s = record { first = cond (ltb s identifiers) 0 endPlace; past = cond
 unfoldable pub number : ℕ → ℕ → ℕ → ℕ
 number k s a = cond (ltb s identifiers) ((k * identifiers + s) * keys + a) (namedEntries + (s - delegate) * keys + k)
 
+-- the number of an entry, and 2,592 where there is no such entry
+abbrev pub entryNumber : ℕ → ℕ → ℕ → ℕ
+entryNumber k s a = cond (isEntry k s a) (number k s a) entries
+
 -- the key of the entry with this number
 unfoldable pub keyOf : ℕ → ℕ
 keyOf e = cond (ltb e namedEntries) (e / keys / identifiers) (e % keys)

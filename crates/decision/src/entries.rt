@@ -8,7 +8,7 @@ ghost use Prim.Native.Nat.{_<_, _≤_};
 ghost use lib.ListN.{length};
 ghost use Rattle.wac.specs.Limits.{entries};
 ghost use Rattle.decision.specs.Lens.{weighingOf};
-ghost use Rattle.decision.specs.Table.{isEntry, arrivalsOf, number, tableOf};
+ghost use Rattle.decision.specs.Table.{isEntry, arrivalsOf, number, entryNumber, tableOf};
 
 // Places from the first on, up to the one past the last.
 pub struct Arrivals {
@@ -58,6 +58,17 @@ pub fn number_of(key: usize, symbol: usize, place: usize) -> usize
         (key * Table::IDENTIFIERS + symbol) * Table::KEYS + place
     } else {
         Table::NAMED_ENTRIES + (symbol - Table::DELEGATE) * Table::KEYS + key
+    }
+}
+
+// The number of an entry, and 2,592 where there is no such entry.
+pub fn entry_number(key: usize, symbol: usize, place: usize) -> usize
+    ensures { λ r. ⌜ r ≡ entryNumber key symbol place ⌝ }
+{
+    if is_entry(key, symbol, place) {
+        number_of(key, symbol, place)
+    } else {
+        Table::ENTRIES
     }
 }
 

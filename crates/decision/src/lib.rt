@@ -10,12 +10,15 @@ mod reading;
 mod request;
 mod writing;
 
+pub use entries::entry_number;
+pub use question::Admitted;
 pub use question::Refused;
 pub use question::Settling;
 pub use question::Shown;
 pub use question::StockList;
 pub use question::Stocked;
 pub use question::Verdict;
+pub use question::admit;
 pub use question::ask;
 pub use question::ask_short;
 pub use question::may;
