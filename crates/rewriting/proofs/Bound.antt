@@ -51,8 +51,11 @@ pub lacking-none : (Q : Question) (F t : Table) → lacking Q F t ≡ 0 → Same
 unfolding lacking
 lacking-none Q F t z = ⊎-elim
     (λ same. same)
-    (λ d. absurd (omega (arith, summed-lt (Q .keys) (λ k s a. 0) (λ k s a. lack (t k s a) (F k s a)) (λ k s a e. omega arith)
-        (d .key) (d .symbol) (d .place) (d .entry) (omega (arith, lack-one (d .differ))))))
+    (λ d. absurd (omega (
+      arith,
+      summed-lt (Q .keys) (λ k s a. 0) (λ k s a. lack (t k s a) (F k s a)) (λ k s a e. omega arith)
+          (d .key) (d .symbol) (d .place) (d .entry) (omega (arith, lack-one (d .differ))),
+    )))
     (compared (Q .keys) t F)
 
 module _ {Q : Question} {R : Rules} (ok : Lawful Q R) {F : Table} (last : Last Q R F) {t : Table} (sound : Sound Q R t) (started : Started Q t) where
@@ -100,16 +103,22 @@ module _ {Q : Question} {R : Rules} (ok : Lawful Q R) {F : Table} (last : Last Q
     lacking-step = ⊎-elim
         (λ same.
         let all : (k s a : ℕ) → Entry K k s a → lack (u k s a) (F k s a) ≤ 0 = λ k s a e. omega (arith, lack-none (final-stays k s a e (same k s a e))) in
-        omega (arith, summed-most K 0 0 (λ k s a. lack (u k s a) (F k s a)) (λ k s a e i. all k s a e)
-        (λ k h. omega (arith, all k delegate K (h, inr (inl refl, refl)), all k access K (h, inr (inr refl, refl))))))
+        omega (
+          arith,
+          summed-most K 0 0 (λ k s a. lack (u k s a) (F k s a)) (λ k s a e i. all k s a e)
+              (λ k h. omega (arith, all k delegate K (h, inr (inl refl, refl)), all k access K (h, inr (inr refl, refl)))),
+        ))
         (λ d. fewer (gain ok last sound u-sound started passed d))
         (compared K t F)
       where
         fewer : Gained Q F t u → lacking Q F u ≤ lacking Q F t - 1
         fewer g =
             let d = g .at in
-            omega (arith, summed-lt K (λ k s a. lack (u k s a) (F k s a)) (λ k s a. lack (t k s a) (F k s a)) lack-falls
-                (d .key) (d .symbol) (d .place) (d .entry) (omega (arith, lack-none (g .now), lack-one (d .differ))))
+            omega (
+              arith,
+              summed-lt K (λ k s a. lack (u k s a) (F k s a)) (λ k s a. lack (t k s a) (F k s a)) lack-falls
+                  (d .key) (d .symbol) (d .place) (d .entry) (omega (arith, lack-none (g .now), lack-one (d .differ))),
+            )
 
 module _ {Q : Question} {R : Rules} (ok : Lawful Q R) {F : Table} (last : Last Q R F) {X : ℕ → Table} (climbs : Climbs Q R X) where
   started : (n : ℕ) → Started Q (X n)
