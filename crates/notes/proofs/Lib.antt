@@ -2,3 +2,5 @@
 pub mod Minutes  -- tables by minutes
 pub mod Putting  -- the table with one entry at least at a minute
 pub mod Taking  -- taking notes
+pub mod Sides  -- what is always true of a site beside the other
+pub mod Good  -- what is always true of two sites
