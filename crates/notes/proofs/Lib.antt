@@ -4,3 +4,5 @@ pub mod Putting  -- the table with one entry at least at a minute
 pub mod Taking  -- taking notes
 pub mod Sides  -- what is always true of a site beside the other
 pub mod Good  -- what is always true of two sites
+pub mod Resting  -- two sites at rest agree and stay so; no note is late
+pub mod Formed  -- what a note that a site writes says
