@@ -4,15 +4,16 @@ use mathlib.Core.Path.{_≡_, refl, sym, _∙_}
 use mathlib.Core.Logic.{inl, inr, ⊎-elim, Iff·symm}
 use mathlib.Core.List.{List}
 use Prim.Native.Nat.{ℕ, zero, suc}
+use native.Mathlib.Omega.{arith}
 use Rattle.rewriting.specs.Weighing.{Weighing, AtMost}
-use Rattle.rewriting.specs.Rewriting.{Rules, Question, Chain, weighed, Answer, delegate}
+use Rattle.rewriting.specs.Rewriting.{Rules, Question, Chain, weighed, Answer, delegate, access}
 use Rattle.rewriting.specs.Entries.{Mark, Entry, Lawful, Brings, asked, by}
 use Rattle.rewriting.specs.Passes.{Table, start, brought, pass, repeated, passes, Still, Settled}
-use Rattle.rewriting.specs.Tables.{Below, Sound, Started, Closed, Last, Origin, own, brings}
+use Rattle.rewriting.specs.Tables.{Below, Found, Sound, Started, Closed, Last, Origin, own, brings}
 use Rattle.rewriting.proofs.Order.{at-most-refl, at-most-trans, at-most-antisym, below-none, along-grows}
 use Rattle.rewriting.proofs.Trees.{chain-brings, brings-entry}
 use Rattle.rewriting.proofs.Passing.{pass-keeps, pass-takes}
-use Rattle.rewriting.proofs.Sound.{weighed-fits, found-fits, passes-sound}
+use Rattle.rewriting.proofs.Sound.{weighed-fits, found-fits, start-sound, passes-sound}
 use Rattle.rewriting.proofs.Complete.{start-mark, brings-covered, reads-covered}
 use Rattle.rewriting.proofs.Answers.{answer-moves}
 
@@ -95,6 +96,19 @@ module _ {Q : Question} {R : Rules} (ok : Lawful Q R) where
         grown (by {k = k} {s = s} {a = a} i f r) e = brings i f (at-most-antisym W
             (at-most-trans W (pass-takes Q R F k s a f) (last .closed k s a (brings-entry ok (by i f r))))
             (rw (← e) (along-grows W (at-most-refl W (R .weight i)) (reads-covered ok (last .started) (last .closed) r))))
+
+  -- What chains bring about for mark 11 is at most the start: no certificate reads it.
+  pub access-start : {k a x : ℕ} → Found W R (Brings Q R k access a) x → AtMost W x (start Q k access a)
+  access-start {k} {a} {x} found = ⊎-elim
+      (λ z. rw z (W .laws .best-none _ (found-fits ok (start-sound ok k access a))))
+      (λ c. from refl (c .1))
+      found
+    where
+      from : {k s a : ℕ} {ch : List ℕ} → s ≡ access → Brings Q R k s a ch → AtMost W x (start Q k s a)
+      from {s = s} e (asked m) = rw (start-mark Q s m) (W .laws .best-whole x (found-fits ok found))
+      from e (by i f r) =
+          let c = ok .certificates i (f .there) in
+          absurd (⊎-elim (λ h. omega (arith, f .symbol, h .0)) (λ h. omega (arith, f .symbol, h .0)) (c .sides))
 
   -- There is only one last table.
   pub last-unique : {t u : Table} → Last Q R t → Last Q R u → (k s a : ℕ) → t k s a ≡ u k s a

@@ -201,7 +201,7 @@ top-digit : (w a b c p q r : ℕ) → a * 256 + r ≡ w → b * 256 + q ≡ a �
 top-digit w a b c p q r e f g h = omega arith
 
 -- the number in the four bytes of a number
-word-read : (w : ℕ) → w ≤ withoutEnd → word (w / 16777216 % 256) (w / 65536 % 256) (w / 256 % 256) (w % 256) ≡ w
+pub word-read : (w : ℕ) → w ≤ withoutEnd → word (w / 16777216 % 256) (w / 65536 % 256) (w / 256 % 256) (w % 256) ≡ w
 word-read w h =
     let high : w / 65536 ≡ w / 256 / 256 = sym (div-div-eq-div-mul w 256 256) in
     let highest : w / 16777216 ≡ w / 256 / 256 / 256 = sym (ap (λ x. x / 256) (div-div-eq-div-mul w 256 256) ∙ div-div-eq-div-mul w 65536 256) in
