@@ -1,0 +1,3 @@
+-- What follows from what the functions promise of a site.
+pub mod NoteLaws  -- a note's bytes say the note
+pub mod Ledgers  -- what the functions make of a site is what the note rules make of its tables
