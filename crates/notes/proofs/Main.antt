@@ -15,10 +15,10 @@ use Rattle.notes.specs.Line.{In, System, Steps, Reached}
 use Rattle.notes.specs.Exchange.{Exchanges}
 use Rattle.notes.proofs.Minutes.{at-most-le}
 use Rattle.notes.proofs.Sides.{due-named}
-use Rattle.notes.proofs.Good.{Both, both-together, both-swap, Good, good, good-swap}
+use Rattle.notes.proofs.Good.{both-together, both-swap, Good, good, good-swap}
 use Rattle.notes.proofs.Resting.{rest-last, stay-steps, side-accepted}
 use Rattle.notes.proofs.Formed.{Formed, named-sent, side-formed}
-use Rattle.notes.proofs.Running.{Comes, comes-exchanges}
+use Rattle.notes.proofs.Running.{comes-exchanges}
 use Rattle.notes.proofs.Rounds.{exchanges-rest}
 
 module _ {K asker : ℕ} {R T : Rules} (r : Lawful (byMinutes K asker) R) (t : Lawful (byMinutes K asker) T) where

@@ -1,6 +1,6 @@
 -- The bound on full exchanges: each leaves one entry fewer that lacks its last weight, so after as many as the bound both sites rest.
-use mathlib.Core.Path.{_≡_, subst₂}
-use Prim.Native.Nat.{ℕ, suc, _≤_, _<_, _-_}
+use mathlib.Core.Path.{subst₂}
+use Prim.Native.Nat.{ℕ, _≤_, _-_}
 use native.Mathlib.Nat.{le-refl}
 use native.Mathlib.Omega.{arith}
 use Rattle.rewriting.specs.Rewriting.{Rules, Question}
