@@ -1,6 +1,5 @@
 -- What a note that a site writes says: an entry of an identifier or of mark 10, and a minute that is not 0.
-use mathlib.Core.Path.{_≡_}
-use mathlib.Core.Logic.{_⊎_, inl, inr}
+use mathlib.Core.Logic.{inl, inr}
 use Prim.Native.Nat.{ℕ, _≤_, _<_}
 use native.Mathlib.Omega.{arith}
 use Rattle.rewriting.specs.Weighing.{minutes, endless}

@@ -1,15 +1,14 @@
 -- What one half of a full exchange does.
-use mathlib.Core.Path.{_≡_, _∙_}
+use mathlib.Core.Path.{_≡_}
 use mathlib.Core.Bool.{true}
 use mathlib.Core.Logic.{by-cases}
 use mathlib.Core.List.{List}
-use Prim.Native.Nat.{ℕ, _≤_}
+use Prim.Native.Nat.{ℕ}
 use native.Mathlib.Nat.{le-refl, le-trans}
 use native.Mathlib.Decide.{decLe}
 use native.Mathlib.Omega.{arith}
 use Rattle.rewriting.specs.Rewriting.{Rules, Question}
 use Rattle.notes.specs.Notes.{Note, raise, receipt, Ledger}
-use Rattle.notes.specs.Line.{In}
 use Rattle.notes.specs.Exchange.{takes, replies, SentBy, Sends, Half}
 use Rattle.notes.proofs.Minutes.{Under}
 use Rattle.notes.proofs.Taking.{Holds, Moves, Calm, takes-moves, takes-calm, takes-raise, takes-receipt, replies-all, replies-each}

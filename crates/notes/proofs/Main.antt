@@ -15,11 +15,16 @@ use Rattle.notes.specs.Line.{In, System, Steps, Reached}
 use Rattle.notes.specs.Exchange.{Exchanges}
 use Rattle.notes.proofs.Minutes.{at-most-le}
 use Rattle.notes.proofs.Sides.{due-named}
-use Rattle.notes.proofs.Good.{Both, both-together, both-swap, Good, good, good-swap}
+use Rattle.notes.proofs.Good.{both-together, both-swap, Good, good, good-swap}
 use Rattle.notes.proofs.Resting.{rest-last, stay-steps, side-accepted}
 use Rattle.notes.proofs.Formed.{Formed, named-sent, side-formed}
-use Rattle.notes.proofs.Running.{Comes, comes-exchanges}
+use Rattle.notes.proofs.Running.{comes-exchanges}
 use Rattle.notes.proofs.Rounds.{exchanges-rest}
+
+-- Full exchanges are a run: what holds of every state that the sites can come to holds after them.
+pub exchanges-run : {Q : Question} {R T : Rules} {x : System} {n : ℕ} {a b : Ledger} → Reached Q R T x →
+    Exchanges Q R T (x .a .ledger) (x .b .ledger) n a b → (y : System) × Reached Q R T y × (y .a .ledger ≡ a) × (y .b .ledger ≡ b)
+exchanges-run {x = x} run e = comes-exchanges (x, run, refl, refl) e
 
 module _ {K asker : ℕ} {R T : Rules} (r : Lawful (byMinutes K asker) R) (t : Lawful (byMinutes K asker) T) where
   abbrev Q : Question
@@ -52,11 +57,6 @@ module _ {K asker : ℕ} {R T : Rules} (r : Lawful (byMinutes K asker) R) (t : L
   pub notes-stay : {x y : System} → Reached Q R T x → Rest K (x .a .ledger) → Rest K (x .b .ledger) → Steps Q R T x y →
       Rest K (y .a .ledger) × Rest K (y .b .ledger)
   notes-stay run a-rests b-rests on = stay-steps (both-together r t) (always run) on a-rests b-rests
-
-  -- Full exchanges are a run.
-  pub exchanges-run : {x : System} {n : ℕ} {a b : Ledger} → Reached Q R T x → Exchanges Q R T (x .a .ledger) (x .b .ledger) n a b →
-      (y : System) × Reached Q R T y × (y .a .ledger ≡ a) × (y .b .ledger ≡ b)
-  exchanges-run {x} run e = comes-exchanges (x, run, refl, refl) e
 
   -- From any state, as many full exchanges as the bound, each begun by either site, bring both to rest.
   pub notes-rest : {x : System} {a b : Ledger} → Reached Q R T x → (n : ℕ) → bound K ≤ n →

@@ -1,6 +1,6 @@
 -- Two sites at rest hold the last table of both files together, and stay at rest; and no note that one of them wrote is late.
 use mathlib.Core.Path.{_≡_}
-use Prim.Native.Nat.{ℕ, _≤_}
+use Prim.Native.Nat.{ℕ}
 use native.Mathlib.Omega.{arith}
 use Rattle.rewriting.specs.Rewriting.{Rules, Question}
 use Rattle.rewriting.specs.Passes.{Table}
@@ -12,7 +12,7 @@ use Rattle.notes.specs.Notes.{byMinutes, Note, raise, receipt, Ledger, n
 use Rattle.notes.specs.Line.{In, Party, System, Act, act-work, act-send, act-take, Step, step-a, step-b, Steps, none, more}
 use Rattle.notes.proofs.Minutes.{at-most-le, under-below}
 use Rattle.notes.proofs.Taking.{Holds, receipt-taken, take-moves, take-calm}
-use Rattle.notes.proofs.Sides.{Part, Honest, Side, worked}
+use Rattle.notes.proofs.Sides.{Honest, Side, worked}
 use Rattle.notes.proofs.Good.{Both, both-swap, Good, good-swap, good-steps}
 
 -- The writer's table holds the minute of an honest note.

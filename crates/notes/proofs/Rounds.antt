@@ -1,11 +1,11 @@
 -- The bound on full exchanges: each leaves one entry fewer that lacks its last weight, so after as many as the bound both sites rest.
-use mathlib.Core.Path.{_≡_, subst₂}
-use Prim.Native.Nat.{ℕ, suc, _≤_, _<_, _-_}
+use mathlib.Core.Path.{subst₂}
+use Prim.Native.Nat.{ℕ, _≤_, _-_}
 use native.Mathlib.Nat.{le-refl}
 use native.Mathlib.Omega.{arith}
 use Rattle.rewriting.specs.Rewriting.{Rules, Question}
-use Rattle.rewriting.specs.Passes.{Table, start, pass, bound}
-use Rattle.rewriting.specs.Tables.{Same, Below, Sound, Last}
+use Rattle.rewriting.specs.Passes.{Table, pass, bound}
+use Rattle.rewriting.specs.Tables.{Same, Below, Sound, Started, Last}
 use Rattle.rewriting.proofs.Order.{at-most-trans}
 use Rattle.rewriting.proofs.Sound.{sound-held}
 use Rattle.rewriting.proofs.Held.{pass-below}
@@ -27,7 +27,7 @@ lacks Q J l = lacking Q J (l .minute)
 -- What is always true of what the first site holds, beside the other.
 record Stands (Q : Question) (B : Rules) (a b : Ledger) : Type 0 where
   sound : Sound Q B (a .minute)
-  started : Below Q (start Q) (a .minute)
+  started : Started Q (a .minute)
   known : Under (Q .keys) (a .receipted) (b .minute)
 
 stands : {K asker : ℕ} {B R T : Rules} {a b : Ledger} → Both (byMinutes K asker) B R T → Comes (byMinutes K asker) R T a b →

@@ -1,8 +1,8 @@
 -- What is always true of a site beside the other, and that every act keeps it.
-use mathlib.Core.Path.{_≡_, refl, ap, _∙_}
-use mathlib.Core.Logic.{_⊎_, ⊎-elim}
-use mathlib.Core.Bool.{true, false≢true, _&&_}
-use mathlib.Core.List.{List, _∷_, List·Memᴰ·cases-cons, List·Memᴰ·not-nil}
+use mathlib.Core.Path.{_≡_, ap, _∙_}
+use mathlib.Core.Logic.{⊎-elim}
+use mathlib.Core.Bool.{true}
+use mathlib.Core.List.{List, _∷_, List·Memᴰ·cases-cons}
 use Prim.Native.Nat.{ℕ, suc, _≤_, _<_, max}
 use native.Mathlib.Nat.{le-refl, le-trans}
 use native.Mathlib.Omega.{arith}
@@ -12,14 +12,13 @@ use Rattle.rewriting.specs.Rewriting.{Rules, Question}
 use Rattle.rewriting.specs.Entries.{Entry, Lawful, Brings}
 use Rattle.rewriting.specs.Passes.{Table, start, pass, repeated}
 use Rattle.rewriting.specs.Tables.{Below, Found, Sound, Closed}
-use Rattle.rewriting.specs.Together.{Among, together}
+use Rattle.rewriting.specs.Together.{Among}
 use Rattle.rewriting.proofs.Tests.{both-true}
-use Rattle.rewriting.proofs.Sound.{found-best, sound-held, repeated-sound, start-sound}
+use Rattle.rewriting.proofs.Sound.{found-best, sound-held, repeated-sound}
 use Rattle.rewriting.proofs.Held.{stays-still}
 use Rattle.rewriting.proofs.LastTable.{repeated-keeps, still-passed, still-closed}
-use Rattle.rewriting.proofs.Together.{first-among, second-among, together-lawful, pass-together}
 use Rattle.notes.specs.Notes.{byMinutes, Note, raise, receipt, Ledger, put, Works, take, Due}
-use Rattle.notes.specs.Line.{In, Party, System, Act, act-work, act-send, act-take, works, sends, receives, Step, step-a, step-b, Steps, none, more, Reached, fresh}
+use Rattle.notes.specs.Line.{In, Party, Act, act-work, act-send, act-take, works, sends, receives}
 use Rattle.notes.proofs.Minutes.{Under, below-under}
 use Rattle.notes.proofs.Putting.{put-holds, put-same, put-grows, put-held, put-under}
 use Rattle.notes.proofs.Taking.{receipt-taken, take-moves}
@@ -145,15 +144,15 @@ module _ {K asker : ℕ} {B R : Rules} (part : Part (byMinutes K asker) B R) whe
     unfolding take
     side-raise k s a m h = record {
       sound = put-sound;
-      started = λ x y z e. le-trans (S .started x y z e) (put-grows t k s a m x y z);
+      started = λ x y z e. le-trans (S .started x y z e) (put-grows _ _ _ _ _ x y z);
       shut = λ e.
           let l = both-true e in
           rw (put-held t k s a m (leb-true m (t k s a) (l .0))) (S .shut (l .1));
-      known = put-under (p .ledger .receipted) k s a m (q .ledger .minute) (S .known) (h .held);
-      seen = λ x y z e. le-trans (S .seen x y z e) (put-grows (p .ledger .receipted) k s a m x y z);
+      known = put-under (p .ledger .receipted) k s a _ (q .ledger .minute) (S .known) (h .held);
+      seen = λ x y z e. le-trans (S .seen x y z e) (put-grows _ _ _ _ _ x y z);
       honest = each-more
-          (record { entry = h .entry; later = h .later; held = omega (arith, put-same t k s a m); found = h .found }, h .held)
-          (λ n j. honest-grows Q B (λ x y z e. put-grows t k s a m x y z) (λ x y z e. le-refl _) n (S .honest n j));
+          (record { entry = h .entry; later = h .later; held = simp put-same (omega arith); found = h .found }, h .held)
+          (λ n j. honest-grows Q B (λ x y z e. put-grows _ _ _ _ _ x y z) (λ x y z e. le-refl _) n (S .honest n j));
     }
       where
         t : Table
@@ -168,8 +167,8 @@ module _ {K asker : ℕ} {B R : Rules} (part : Part (byMinutes K asker) B R) whe
       sound = S .sound;
       started = S .started;
       shut = S .shut;
-      known = put-under (p .ledger .receipted) k s a m (q .ledger .minute) (S .known) l;
-      seen = λ x y z e. le-trans (S .seen x y z e) (put-grows (p .ledger .receipted) k s a m x y z);
+      known = put-under (p .ledger .receipted) k s a _ (q .ledger .minute) (S .known) l;
+      seen = λ x y z e. le-trans (S .seen x y z e) (put-grows _ _ _ _ _ x y z);
       honest = S .honest;
     })
 

@@ -1,7 +1,7 @@
 -- Taking notes: one, or several in turn, and the receipts written meanwhile.
-use mathlib.Core.Path.{_≡_, refl, sym, _∙_}
-use mathlib.Core.Logic.{_⊎_, ⊎-elim}
-use mathlib.Core.Bool.{Bool, true, false, _&&_}
+use mathlib.Core.Path.{_≡_, refl, _∙_}
+use mathlib.Core.Logic.{⊎-elim}
+use mathlib.Core.Bool.{Bool, true, false}
 use mathlib.Core.List.{List, [], _∷_, List·Memᴰ·head, List·Memᴰ·tail, List·Memᴰ·cases-cons, List·Memᴰ·not-nil}
 use Prim.Native.Nat.{ℕ, _≤_, _<_}
 use native.Mathlib.Nat.{le-refl, le-trans}
@@ -9,7 +9,7 @@ use native.Mathlib.Omega.{arith}
 use lib.Dec.{leb}
 use borrow.Author.Tests.{leb-true, leb-false, le-leb}
 use Rattle.rewriting.specs.Passes.{Table}
-use Rattle.notes.specs.Notes.{Note, raise, receipt, Ledger, Answer, replied, noted, late, Taken, put, checked, take}
+use Rattle.notes.specs.Notes.{Note, raise, receipt, Ledger, Answer, replied, noted, late, Taken, checked, take}
 use Rattle.notes.specs.Line.{In, written}
 use Rattle.notes.specs.Exchange.{takes, replies}
 use Rattle.notes.proofs.Putting.{put-same, put-grows, put-held, put-order}
@@ -46,31 +46,31 @@ pub record Calm (l l′ : Ledger) : Type 0 where
   pub same : l′ .minute ≡ l .minute
   pub quiet : l .idle ≡ true → l′ .idle ≡ true
 
-moves-stay : (l : Ledger) → Moves l l
-moves-stay l = record { grows = λ x y z. le-refl _; receipts = λ x y z. le-refl _; settles = λ x y z h. h }
-
--- Every note moves a site on;
-pub take-moves : (n : Note) (l : Ledger) → Moves l (take n l .ledger)
-unfolding take
-take-moves (raise k s a m) l = record {
-  grows = put-grows (l .minute) k s a m;
-  receipts = put-grows (l .receipted) k s a m;
-  settles = put-order (l .minute) (l .receipted) k s a m;
-}
-take-moves (receipt k s a m) l = receipt-cases k s a m l (λ r. Moves l (r .ledger))
-    (λ h. record {
-      grows = λ x y z. le-refl _;
-      receipts = put-grows (l .receipted) k s a m;
-      settles = λ x y z h. le-trans h (put-grows (l .receipted) k s a m x y z);
-    })
-    (λ h. moves-stay l)
-
--- one whose minute the entry holds leaves it calm.
+-- A note whose minute the entry holds leaves a site calm;
 pub take-calm : (n : Note) (l : Ledger) → Holds (l .minute) n → Calm l (take n l .ledger)
 unfolding take
 take-calm (raise k s a m) l h =
     record { same = put-held (l .minute) k s a m h; quiet = λ e. rw (le-leb m (l .minute k s a) h, e) }
-take-calm (receipt k s a m) l h = rw (receipt-taken k s a m l h) (record { same = refl; quiet = λ e. e })
+take-calm (receipt k s a m) l h = rw (receipt-taken k s a m l h) (record { same = refl; quiet = λ e. cc })
+
+moves-stay : (l : Ledger) → Moves l l
+moves-stay l = record { grows = λ x y z. le-refl _; receipts = λ x y z. le-refl _; settles = λ x y z h. h }
+
+-- every note moves it on.
+pub take-moves : (n : Note) (l : Ledger) → Moves l (take n l .ledger)
+unfolding take
+take-moves (raise k s a m) l = record {
+  grows = put-grows _ _ _ _ _;
+  receipts = put-grows _ _ _ _ _;
+  settles = put-order (l .minute) (l .receipted) k s a _;
+}
+take-moves (receipt k s a m) l = receipt-cases k s a m l (λ r. Moves l (r .ledger))
+    (λ h. record {
+      grows = λ x y z. le-refl _;
+      receipts = put-grows _ _ _ _ _;
+      settles = λ x y z h. le-trans h (put-grows _ _ _ _ _ x y z);
+    })
+    (λ h. moves-stay l)
 
 -- So do several in turn.
 pub takes-moves : (ns : List Note) (l : Ledger) → Moves l (takes ns l)
@@ -96,7 +96,7 @@ takes-calm (n ∷ ns) l h =
 -- A raise among them is held after,
 raise-held : (k s a m : ℕ) (l : Ledger) → m ≤ take (raise k s a m) l .ledger .minute k s a
 unfolding take
-raise-held k s a m l = omega (arith, put-same (l .minute) k s a m)
+raise-held k s a m l = simp put-same (omega arith)
 
 pub takes-raise : {k s a m : ℕ} {ns : List Note} (l : Ledger) → In (raise k s a m) ns → m ≤ takes ns l .minute k s a
 unfolding takes
@@ -106,7 +106,7 @@ takes-raise l (List·Memᴰ·tail {x = n} j) = takes-raise (take n l .ledger) j
 
 -- and a receipt for a minute that the entry holds is receipted.
 receipt-noted : (k s a m : ℕ) (l : Ledger) → m ≤ l .minute k s a → m ≤ take (receipt k s a m) l .ledger .receipted k s a
-receipt-noted k s a m l h = rw (receipt-taken k s a m l h) (omega (arith, put-same (l .receipted) k s a m))
+receipt-noted k s a m l h = rw (receipt-taken k s a m l h) (simp put-same (omega arith))
 
 pub takes-receipt : {k s a m : ℕ} {ns : List Note} (l : Ledger) → m ≤ l .minute k s a → In (receipt k s a m) ns → m ≤ takes ns l .receipted k s a
 unfolding takes
