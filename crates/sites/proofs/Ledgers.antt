@@ -1,8 +1,8 @@
 -- What the functions make of a site is what the note rules make of its tables: opening, working, taking a note, writing one, rest.
-use mathlib.Core.Path.{_≡_, refl, sym, ap, _∙_, subst, fun-ext}
+use mathlib.Core.Path.{_≡_, refl, sym, ap, _∙_, subst, subst₂, fun-ext}
 use mathlib.Core.Bool.{Bool, true, false, cond, not, _&&_, _||_, true≢false}
 use mathlib.Core.Logic.{_⊎_, inl, inr, ⊎-elim, by-cases}
-use mathlib.Core.List.{List, [], _∷_, _++_, map}
+use mathlib.Core.List.{List, [], _∷_, _++_, map, List·Memᴰ, List·Memᴰ·cases-cons}
 use Prim.Native.Nat.{ℕ, _≤_, _<_, min, max}
 use native.Mathlib.Omega.{arith}
 use native.Mathlib.Decide.{ℕ-discrete, decLt}
@@ -13,12 +13,12 @@ use lib.Seq.{sets}
 use Rattle.wac.specs.Limits.{keys, entries, access, delegate, endPlace, withoutEnd, largestFile}
 use Rattle.wac.specs.Answers.{Answer, gives, refuses, Case, _if_, firstOf}
 use Rattle.wac.specs.File.{countOf, fileCases}
-use Rattle.wac.proofs.Cases.{first-none, first-holds, first-fails, first-given, gives-injective, gives-not-refuses}
+use Rattle.wac.proofs.Cases.{first-none, first-holds, first-fails, first-passed, first-given, gives-injective, gives-not-refuses}
 use Rattle.wac.proofs.Tests.{and-both, and-true, false-and, and-false, allBelow-true, allBelow-at}
 use Rattle.rewriting.specs.Weighing.{minutes}
 use Rattle.rewriting.specs.Rewriting.{Rules, Question}
 use Rattle.rewriting.specs.Entries.{Entry, Lawful}
-use Rattle.rewriting.specs.Passes.{Table, start}
+use Rattle.rewriting.specs.Passes.{Table, start, repeated}
 use Rattle.rewriting.specs.Tables.{Held}
 use Rattle.rewriting.proofs.Tests.{by-test}
 use Rattle.rewriting.proofs.Held.{repeated-held}
@@ -115,14 +115,14 @@ table-number l e h = table-at l _ _ _ (entry-back e h) ∙ ap (λ n. getD l n 0)
 
 -- ---- working
 
-module _ {s : List ℕ} {q : Request} {session : ℕ} (ok : Lawful (questionBy Minutes (q .asker)) (rulesOf s q))
+module _ (s : List ℕ) (q : Request) (ok : Lawful (questionBy Minutes (q .asker)) (rulesOf s q))
     (admitted : firstOf (fileCases s ++ requestCases q) (countOf s) ≡ gives (countOf s)) where
   settles-given : (l : List ℕ) → entries ≤ length l → firstOf (settleCases s q (length l)) (countOf s) ≡ gives (countOf s)
   unfolding settleCases
   settles-given l long = first-given (fileCases s ++ requestCases q) _ (countOf s) (countOf s) admitted ∙ first-fails _ _ _ (le-ltb _ _ long) ∙ first-none _
 
   -- passes over the site's own file are the rules' work
-  settled-works : {x x′ : Site} (ms : List ℕ) (N : ℕ) → Standing s q session x → SettledFrom Minutes s q (x .minutes) N ms → x′ ≡ workedSite x ms →
+  settled-works : {session : ℕ} {x x′ : Site} (ms : List ℕ) (N : ℕ) → Standing s q session x → SettledFrom Minutes s q (x .minutes) N ms → x′ ≡ workedSite x ms →
       rules.Works (asked q) (rulesOf s q) (ledger x) (ledger x′) × Standing s q session x′
   unfolding minutes
   settled-works {x} ms N st from e = rw e (
@@ -130,8 +130,182 @@ module _ {s : List ℕ} {q : Request} {session : ℕ} (ok : Lawful (questionBy M
     record { file = st .file; request = st .request; of-session = st .of-session; live = st .live; minutes = within; receipted = st .receipted },
   )
     where
-      after : Held (questionBy Minutes (q .asker)) _
-      after = repeated-held (questionBy Minutes (q .asker)) ok (tableOf 0 (x .minutes)) (list-held Minutes (q .asker) (x .minutes) (st .minutes)) N
+      after : Held (asked q) (repeated (asked q) (rulesOf s q) (tableOf 0 (x .minutes)) N)
+      after = repeated-held (asked q) ok (tableOf 0 (x .minutes)) (list-held Minutes (q .asker) (x .minutes) (st .minutes)) N
 
       within : Within Minutes ms
       within = within-row Minutes (q .asker) _ after ms (from .row) (x .minutes) (st .minutes) (from .long) (from .beyond)
+
+  no-refusal : {why : Refused} {N : ℕ} → settlings.Refused why ≡ settlings.Passes N → ⊥
+  no-refusal e = let z : _≡_ {A = ℕ} 0 1 = cc in omega arith
+
+  -- working a site is the rules' work
+  pub site-works : {session : ℕ} {x x′ : Site} → Standing s q session x → Works x x′ → rules.Works (asked q) (rulesOf s q) (ledger x) (ledger x′) × Standing s q session x′
+  site-works st (Works.worked N ms (Settles.refused why case e same) at) = absurd (no-refusal (sym e))
+  site-works {x = x} st (Works.worked N ms (Settles.settled case M from e) at) =
+      settled-works ms M st (subst₂ (λ f r. SettledFrom Minutes f r (x .minutes) M ms) (st .file) (st .request) from) at
+  site-works st (Works.refused why (Settles.settled case M from e) at) = absurd (no-refusal e)
+  site-works {x = x} st (Works.refused why (Settles.refused why′ case e same) at) =
+      absurd (gives-not-refuses (sym (settles-given (x .minutes) (st .minutes .long)) ∙ subst₂ (λ f r. firstOf (settleCases f r (length (x .minutes))) (countOf f) ≡ refusedAs why′) (st .file) (st .request) case))
+
+-- ---- taking a note
+
+-- a note's kind, by what became of it
+raise-said : (n : Note) → n .kind ≡ raiseKind → saidBy n ≡ rules.raise (n .key) (n .symbol) (n .arrival) (n .minute)
+raise-said n e = rw (eq-eqb (n .kind) raiseKind e)
+
+receipt-said : (n : Note) → n .kind ≡ receiptKind → saidBy n ≡ rules.receipt (n .key) (n .symbol) (n .arrival) (n .minute)
+receipt-said n e = rw (ne-eqb (n .kind) raiseKind (λ z. omega arith))
+
+-- a raise and a receipt of an entry are what the rules make of the tables
+module _ {s : List ℕ} {q : Request} {session : ℕ} {x : Site} (st : Standing s q session x) (n : Note) (here : isEntry (n .key) (n .symbol) (n .arrival) ≡ true) where
+  entry-here : entryOf n ≡ number (n .key) (n .symbol) (n .arrival)
+  entry-here = rw here
+
+  minute-here : minuteAt x (entryOf n) ≡ tableOf 0 (x .minutes) (n .key) (n .symbol) (n .arrival)
+  minute-here = ap (minuteAt x) entry-here ∙ sym (table-at (x .minutes) (n .key) (n .symbol) (n .arrival) here)
+
+  stored-put : (l : List ℕ) → entries ≤ length l → tableOf 0 (set l (entryOf n) (max (getD l (entryOf n) 0) (n .minute))) ≡ rules.put (tableOf 0 l) (n .key) (n .symbol) (n .arrival) (n .minute)
+  stored-put l long = subst (λ e. tableOf 0 (set l e (max (getD l e 0) (n .minute))) ≡ rules.put (tableOf 0 l) (n .key) (n .symbol) (n .arrival) (n .minute)) (sym entry-here)
+      (store-put l long (n .key) (n .symbol) (n .arrival) here (n .minute))
+
+  raise-ledger : ledger (raisedSite x (entryOf n) (n .minute)) ≡ rules.raised (n .key) (n .symbol) (n .arrival) (n .minute) (ledger x)
+  raise-ledger = λ i. record {
+    minute = stored-put (x .minutes) (st .minutes .long) i;
+    receipted = stored-put (x .receipted) (st .receipted) i;
+    idle = leb (n .minute) (minute-here i) && x .idle;
+  }
+
+  receipt-ledger : ledger (receiptedSite x (entryOf n) (n .minute)) ≡ rules.acknowledged (n .key) (n .symbol) (n .arrival) (n .minute) (ledger x)
+  receipt-ledger = λ i. record { minute = tableOf 0 (x .minutes); receipted = stored-put (x .receipted) (st .receipted) i; idle = x .idle }
+
+  -- and the site stands after them
+  module _ (fits : n .minute ≤ withoutEnd) where
+    raise-stands : Standing s q session (raisedSite x (entryOf n) (n .minute))
+    unfolding minutes
+    raise-stands = record {
+      file = st .file;
+      request = st .request;
+      of-session = st .of-session;
+      live = st .live;
+      minutes = within-set Minutes (x .minutes) (st .minutes) (entryOf n) _ (omega (arith, st .minutes .fits (entryOf n)));
+      receipted = let long = st .receipted in simp length-set long;
+    }
+
+    receipt-stands : Standing s q session (receiptedSite x (entryOf n) (n .minute))
+    receipt-stands = record {
+      file = st .file;
+      request = st .request;
+      of-session = st .of-session;
+      live = st .live;
+      minutes = st .minutes;
+      receipted = let long = st .receipted in simp length-set long;
+    }
+
+-- every note of a list is honest
+abbrev pub AllHonest : ℕ → List (List ℕ) → Type 0
+AllHonest session w = (b : List ℕ) → List·Memᴰ b w → Honest session b
+
+pub honest-more : {session : ℕ} {b : List ℕ} {w : List (List ℕ)} → Honest session b → AllHonest session w → AllHonest session (b ∷ w)
+honest-more {session} {b} h all c m = ⊎-elim (λ e. subst (Honest session) (sym e) h) (all c) (List·Memᴰ·cases-cons m)
+
+-- the bytes of a note with its fields in range are an honest note, and say it
+module _ (session : ℕ) (word : session ≤ withoutEnd) (n : Note) (f : Fields n) (fits : n .minute ≤ withoutEnd) (own : n .session ≡ session) where
+  pub written-says : noteFrom (noteBytes n) ≡ n
+  written-says = note-read-back n (omega arith) fits
+
+  pub written-honest : Honest session (noteBytes n)
+  unfolding noteOk
+  written-honest = record {
+    ok = ap formed written-says ∙ fields-formed n f;
+    of-session = ap (λ (n : Note). n .session) written-says ∙ own;
+    fits = subst (λ (n : Note). n .minute ≤ withoutEnd) (sym written-says) fits;
+  }
+
+-- a note taken with room for a receipt: the site stands, its tables are what the rules make of them, and so is what it writes
+pub record Follows (s : List ℕ) (q : Request) (session : ℕ) (x : Site) (b : List ℕ) (t : Taken) (x′ : Site) (l : List ℕ) : Type 0 where
+  pub stands : Standing s q session x′
+  pub tables : ledger x′ ≡ rules.take (noteOf b) (ledger x) .ledger
+  pub writes : (w : List (List ℕ)) → map noteOf (receiptIn t l w) ≡ line.written (rules.take (noteOf b) (ledger x) .answer) (map noteOf w)
+  pub honest : (w : List (List ℕ)) → AllHonest session w → AllHonest session (receiptIn t l w)
+
+module _ {s : List ℕ} {q : Request} {session : ℕ} (word : session ≤ withoutEnd) {x : Site} (st : Standing s q session x) {b : List ℕ} (h : Honest session b) (l : List ℕ) (room : noteLength ≤ length l) where
+  abbrev said : Note
+  said = noteFrom b
+
+  fields : Fields said
+  unfolding noteOk
+  fields = formed-fields said (and-both (eqb (length b) noteLength) (formed said) (h .ok) .1)
+
+  own-session : (x .live && eqb (said .session) (x .session)) ≡ true
+  own-session = rw (st .live, eq-eqb (said .session) (x .session) (h .of-session ∙ sym (st .of-session)))
+
+  abbrev isLate : Bool
+  isLate = eqb (said .kind) receiptKind && ltb (minuteAt x (entryOf said)) (said .minute)
+
+  -- of the refusals only the last can hold
+  only-late : firstOf (noteCases x b (length l)) (said .kind) ≡ firstOf ((28 if isLate) ∷ []) (said .kind)
+  unfolding noteCases
+  only-late = first-fails _ _ _ (le-ltb _ _ room) ∙ first-fails _ _ _ (ap not (h .ok))
+      ∙ first-fails _ _ _ (ap not own-session)
+
+  given-late : {v : ℕ} → gives v ≡ firstOf (noteCases x b (length l)) (said .kind) → (isLate ≡ false) × (said .kind ≡ v)
+  given-late e =
+      let p = first-passed (28 if isLate) [] (said .kind) (sym (e ∙ only-late)) in
+      (p .0, gives-injective (sym (first-none (said .kind)) ∙ p .1))
+
+  refused-late : {n : ℕ} {vs : List ℕ} → refuses n vs ≡ firstOf (noteCases x b (length l)) (said .kind) → isLate ≡ true
+  refused-late {n} {vs} e = turn isLate refl
+    where
+      turn : (t : Bool) → isLate ≡ t → t ≡ true
+      turn true e′ = refl
+      turn false e′ = absurd (gives-not-refuses (sym (first-none (said .kind)) ∙ sym (first-fails (28 if isLate) [] (said .kind) e′) ∙ sym only-late ∙ sym e))
+
+  minute-said : minuteAt x (entryOf said) ≡ ledger x .minute (said .key) (said .symbol) (said .arrival)
+  minute-said = minute-here st said (fields .entry)
+
+  -- whether a receipt is late is what the rules test
+  on-time-of : isLate ≡ false → said .kind ≡ receiptKind → leb (said .minute) (ledger x .minute (said .key) (said .symbol) (said .arrival)) ≡ true
+  on-time-of early kind =
+      let held = ltb-false (minuteAt x (entryOf said)) (said .minute) (sym (and-true _ _ (eq-eqb (said .kind) receiptKind kind)) ∙ early) in
+      le-leb _ _ (subst (λ v. said .minute ≤ v) minute-said held)
+
+  after-late : ltb (minuteAt x (entryOf said)) (said .minute) ≡ true → leb (said .minute) (ledger x .minute (said .key) (said .symbol) (said .arrival)) ≡ false
+  after-late late = lt-leb _ _ (subst (λ v. v < said .minute) minute-said (ltb-true _ _ late))
+
+  -- a site takes a note as the rules say
+  pub follows : (t : Taken) → takenAs t ≡ firstOf (noteCases x b (length l)) (said .kind) → {x′ : Site} → x′ ≡ siteAfter t x said → {l′ : List ℕ} → l′ ≡ bytesAfter t l said →
+      Follows s q session x b t x′ l′
+  unfolding rules.take
+  follows takens.Raise answer at bytes = rw (at, bytes) (
+      let kind = given-late answer .1 in
+      let taken = note-taken l (receiptOf said) room in
+      let back = written-says session word (receiptOf said) reply (h .fits) (h .of-session) in
+      record {
+        stands = raise-stands st said (fields .entry) (h .fits);
+        tables = rw (raise-said said kind) (raise-ledger st said (fields .entry));
+        writes = λ w. rw (raise-said said kind) (ap (λ n. n ∷ map noteOf w) (ap noteOf taken ∙ ap saidBy back));
+        honest = λ w. honest-more (rw taken (written-honest session word (receiptOf said) reply (h .fits) (h .of-session)));
+      })
+    where
+      reply : Fields (receiptOf said)
+      reply = record { kind = refl; some = fields .some; symbol = fields .symbol; entry = fields .entry }
+  follows takens.Receipt answer at bytes = rw (at, bytes) (
+      let g = given-late answer in
+      let on-time = on-time-of (g .0) (g .1) in
+      record {
+        stands = receipt-stands st said (fields .entry) (h .fits);
+        tables = rw (receipt-said said (g .1), on-time) (receipt-ledger st said (fields .entry));
+        writes = λ w. rw (receipt-said said (g .1), on-time) refl;
+        honest = λ w all. all;
+      })
+  follows (takens.Refused why) answer at bytes = rw (at, bytes) (
+      let late = and-both _ _ (refused-late answer) in
+      let kind = eqb-true (said .kind) receiptKind (late .0) in
+      let after = after-late (late .1) in
+      record {
+        stands = st;
+        tables = rw (receipt-said said kind, after) refl;
+        writes = λ w. rw (receipt-said said kind, after) refl;
+        honest = λ w all. all;
+      })
