@@ -11,7 +11,7 @@ use Rattle.notes.proofs.Taking.{written-more}
 use Rattle.notes.proofs.Good.{swap}
 
 -- The two sites are alike.
-steps-swap : {Q : Question} {R T : Rules} {x y : System} → Steps Q R T x y → Steps Q T R (swap x) (swap y)
+pub steps-swap : {Q : Question} {R T : Rules} {x y : System} → Steps Q R T x y → Steps Q T R (swap x) (swap y)
 steps-swap none = none
 steps-swap (more r (step-a c)) = more (steps-swap r) (step-b c)
 steps-swap (more r (step-b c)) = more (steps-swap r) (step-a c)

@@ -1,3 +1,5 @@
 -- What follows from what the functions promise of a site.
 pub mod NoteLaws  -- a note's bytes say the note
 pub mod Ledgers  -- what the functions make of a site is what the note rules make of its tables
+pub mod Sending  -- the notes that a site writes
+pub mod Following  -- two sites on the line do what the note rules say of their tables
