@@ -17,6 +17,7 @@ use Rattle.wac.specs.File.{countOf, fileCases, placeOf}
 use Rattle.wac.proofs.Cases.{first-holds, first-fails, gives-not-refuses}
 use Rattle.wac.proofs.FileLaws.{file-kept}
 use Rattle.rewriting.specs.Weighing.{minutes}
+use Rattle.rewriting.specs.Rewriting.{Rules, Question}
 use Rattle.rewriting.specs.Entries.{Entry, Lawful}
 use Rattle.rewriting.specs.Passes.{start}
 use Rattle.rewriting.specs.Tables.{Held}
@@ -35,6 +36,7 @@ use Rattle.decision.proofs.QuestionLaws.{within-exact}
 use Rattle.decision.proofs.TableLaws.{entry-of, entry-back, length-row, held-row}
 use Rattle.notes.specs.Notes as rules
 use Rattle.notes.specs.Line as line
+use Rattle.notes.proofs.Good.{swap}
 use Rattle.notes.proofs.Running.{steps-swap}
 use Rattle.notes.proofs.Main.{due-formed}
 use Rattle.sites.specs.Notes.{noteLength, noteFrom, noteOk}
@@ -153,29 +155,38 @@ followed-swap k = record { a-stands = k .b-stands; b-stands = k .a-stands; a-hon
 first-sendable : {f g : List ℕ} {q : Request} → InOrder f q → InOrder g q → (a b : Party) → line.Reached (asked q) (rulesOf f q) (rulesOf g q) (record { a = party a; b = party b }) → Sendable (a .site)
 first-sendable f-order g-order a b r k s p e d = due-formed (f-order .lawful) (g-order .lawful) r k s p e .0 d .symbol
 
+-- an act of the rules, or none
+abbrev Moves : Question → Rules → Rules → line.System → line.System → Type 0
+Moves Q R T x y = (x ≡ y) ⊎ line.Step Q R T x y
+
+moves-on : {Q : Question} {R T : Rules} {x y z : line.System} → line.Steps Q R T x y → Moves Q R T y z → line.Steps Q R T x z
+moves-on {Q} {R} {T} {x} on = ⊎-elim (λ same. subst (line.Steps Q R T x) same on) (λ step. line.more on step)
+
+moves-swap : {Q : Question} {R T : Rules} {x y : line.System} → Moves Q R T x y → Moves Q T R (swap x) (swap y)
+moves-swap (inl same) = inl (ap swap same)
+moves-swap (inr (line.step-a act)) = inr (line.step-b act)
+moves-swap (inr (line.step-b act)) = inr (line.step-a act)
+
 first-follows : {f g : List ℕ} {q : Request} {session : ℕ} → session ≤ withoutEnd → InOrder f q → InOrder g q → {a b p : Party} →
-    Followed f g q session (record { a = a; b = b }) → Act session (b .wrote) a p → Followed f g q session (record { a = p; b = b })
-first-follows {f} {g} {q} word f-order g-order {a} {b} k act =
+    Followed f g q session (record { a = a; b = b }) → Act session (b .wrote) a p →
+    Followed f g q session (record { a = p; b = b }) × Moves (asked q) (rulesOf f q) (rulesOf g q) (record { a = party a; b = party b }) (record { a = party p; b = party b })
+first-follows {f} {g} {q} word f-order g-order {a} {b} {p} k act =
     let d = act-follows word f-order (k .b-honest) (k .a-stands) (k .a-honest) (first-sendable f-order g-order a b (k .reached)) act in
-    record {
-      a-stands = d .stands;
-      b-stands = k .b-stands;
-      a-honest = d .honest;
-      b-honest = k .b-honest;
-      reached = ⊎-elim
-          (λ same. subst (λ p. line.Reached (asked q) (rulesOf f q) (rulesOf g q) (record { a = p; b = party b })) same (k .reached))
-          (λ act. line.more (k .reached) (line.step-a act))
-          (d .acts);
-    }
+    let moves : Moves (asked q) (rulesOf f q) (rulesOf g q) (record { a = party a; b = party b }) (record { a = party p; b = party b }) =
+    ⊎-elim (λ same. inl (ap (λ p. record { a = p; b = party b }) same)) (λ act. inr (line.step-a act)) (d .acts) in
+    (record { a-stands = d .stands; b-stands = k .b-stands; a-honest = d .honest; b-honest = k .b-honest; reached = moves-on (k .reached) moves }, moves)
 
 module _ {f g : List ℕ} {q : Request} {session : ℕ} (word : session ≤ withoutEnd) (f-order : InOrder f q) (g-order : InOrder g q) where
-  follow-step : {x y : System} → Followed f g q session x → Step session x y → Followed f g q session y
+  follow-step : {x y : System} → Followed f g q session x → Step session x y → Followed f g q session y × Moves (asked q) (rulesOf f q) (rulesOf g q) (system x) (system y)
   follow-step k (Step.step-a act) = first-follows word f-order g-order k act
-  follow-step k (Step.step-b act) = followed-swap (first-follows word g-order f-order (followed-swap k) act)
+  follow-step k (Step.step-b act) = let d = first-follows word g-order f-order (followed-swap k) act in (followed-swap (d .0), moves-swap (d .1))
 
-  pub follow-steps : {x y : System} → Followed f g q session x → Steps session x y → Followed f g q session y
-  follow-steps k Steps.none = k
-  follow-steps k (Steps.more on step) = follow-step (follow-steps k on) step
+  pub follow-steps : {x y : System} → Followed f g q session x → Steps session x y → Followed f g q session y × line.Steps (asked q) (rulesOf f q) (rulesOf g q) (system x) (system y)
+  follow-steps k Steps.none = (k, line.none)
+  follow-steps k (Steps.more on step) =
+      let before = follow-steps k on in
+      let d = follow-step (before .0) step in
+      (d .0, moves-on (before .1) (d .1))
 
 -- ---- opening
 
@@ -242,4 +253,4 @@ followed {f} {g} {q} {session} r =
       a-honest = λ b m. absurd (List·Memᴰ·not-nil (subst (List·Memᴰ b) (r .begun-a .silent) m));
       b-honest = λ b m. absurd (List·Memᴰ·not-nil (subst (List·Memᴰ b) (r .begun-b .silent) m));
       reached = rw (begun-fresh (r .begun-a), begun-fresh (r .begun-b)) line.none;
-    }) (r .steps)
+    }) (r .steps) .0

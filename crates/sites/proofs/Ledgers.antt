@@ -41,6 +41,7 @@ use Rattle.sites.specs.Site.{fileOf, workedSite, Works, minuteAt, receip
 use Rattle.sites.specs.Line.{receiptIn}
 use Rattle.sites.specs.declared.note.Note.{Note}
 use Rattle.sites.specs.declared.site.Site.{Site}
+use Rattle.sites.specs.declared.site.NoteRefused.{NoteRefused}
 use Rattle.sites.specs.declared.site.Taken.{Taken}
 use Rattle.sites.specs.declared.site.Taken.the-variants as takens
 use Rattle.sites.specs.declared.site.Taking.{Taking}
@@ -228,6 +229,7 @@ pub record Follows (s : List ℕ) (q : Request) (session : ℕ) (x : Site) (b : 
   pub tables : ledger x′ ≡ rules.take (noteOf b) (ledger x) .ledger
   pub writes : (w : List (List ℕ)) → map noteOf (receiptIn t l w) ≡ line.written (rules.take (noteOf b) (ledger x) .answer) (map noteOf w)
   pub honest : (w : List (List ℕ)) → AllHonest session w → AllHonest session (receiptIn t l w)
+  pub refused : (why : NoteRefused) → t ≡ takens.Refused why → rules.take (noteOf b) (ledger x) .answer ≡ rules.late
 
 module _ {s : List ℕ} {q : Request} {session : ℕ} (word : session ≤ withoutEnd) {x : Site} (st : Standing s q session x) {b : List ℕ} (h : Honest session b) (l : List ℕ) (room : noteLength ≤ length l) where
   abbrev said : Note
@@ -286,6 +288,7 @@ module _ {s : List ℕ} {q : Request} {session : ℕ} (word : session ≤ withou
         tables = rw (raise-said said kind) (raise-ledger st said (fields .entry));
         writes = λ w. rw (raise-said said kind) (ap (λ n. n ∷ map noteOf w) (ap noteOf taken ∙ ap saidBy back));
         honest = λ w. honest-more (rw taken (written-honest session word (receiptOf said) reply (h .fits) (h .of-session)));
+        refused = λ why e. absurd (let z : _≡_ {A = ℕ} 0 1 = cc in omega arith);
       })
     where
       reply : Fields (receiptOf said)
@@ -298,6 +301,7 @@ module _ {s : List ℕ} {q : Request} {session : ℕ} (word : session ≤ withou
         tables = rw (receipt-said said (g .1), on-time) (receipt-ledger st said (fields .entry));
         writes = λ w. rw (receipt-said said (g .1), on-time) refl;
         honest = λ w all. all;
+        refused = λ why e. absurd (let z : _≡_ {A = ℕ} 0 1 = cc in omega arith);
       })
   follows (takens.Refused why) answer at bytes = rw (at, bytes) (
       let late = and-both _ _ (refused-late answer) in
@@ -308,4 +312,5 @@ module _ {s : List ℕ} {q : Request} {session : ℕ} (word : session ≤ withou
         tables = rw (receipt-said said kind, after) refl;
         writes = λ w. rw (receipt-said said kind, after) refl;
         honest = λ w all. all;
+        refused = λ why e. rw (receipt-said said kind, after) refl;
       })

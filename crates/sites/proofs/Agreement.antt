@@ -1,0 +1,102 @@
+-- What is proved of two sites: demand 3, of the functions' own results and down to the notes' bytes.
+use mathlib.Core.Path.{_≡_, refl, sym, ap, _∙_, subst}
+use mathlib.Core.Bool.{true, false}
+use mathlib.Core.List.{List, List·Memᴰ, Memᴰ·map}
+use Prim.Native.Nat.{ℕ, _≤_}
+use native.Mathlib.Omega.{arith}
+use lib.ListN.{length}
+use Rattle.wac.specs.Limits.{keys, delegate, endPlace}
+use Rattle.rewriting.specs.Weighing.{minutes}
+use Rattle.rewriting.specs.Rewriting.{Decides}
+use Rattle.rewriting.specs.Entries.{Lawful}
+use Rattle.rewriting.specs.Passes.{Table, bound}
+use Rattle.rewriting.specs.Tables.{Last}
+use Rattle.rewriting.proofs.Order.{minutes-by-weakest}
+use Rattle.rewriting.proofs.Answers.{answer-decides, decides-unique}
+use Rattle.rewriting.proofs.LastTable.{last-answer}
+use Rattle.rewriting.proofs.Bound.{last-exists}
+use Rattle.rewriting.proofs.Together.{together-lawful, together-weighty}
+use Rattle.decision.specs.Usable.{rulesOf}
+use Rattle.decision.specs.Table.{tableOf}
+use Rattle.decision.specs.Question.{asked, Ready}
+use Rattle.decision.specs.declared.request.Request.{Request}
+use Rattle.decision.proofs.AskLaws.{admitted-ready}
+use Rattle.decision.proofs.QuestionLaws.{rules-weighty}
+use Rattle.notes.specs.Notes as rules
+use Rattle.notes.proofs.Main.{notes-safe, notes-agree, notes-stay, notes-rest, notes-accepted}
+use Rattle.sites.specs.Notes.{noteLength}
+use Rattle.sites.specs.Site.{Takes, restful, showing}
+use Rattle.sites.specs.Line.{System, Steps, Reached, bothFiles, JointMinute}
+use Rattle.sites.specs.Exchange.{Exchanges}
+use Rattle.sites.specs.declared.site.Site.{Site}
+use Rattle.sites.specs.declared.site.NoteRefused.{NoteRefused}
+use Rattle.sites.specs.declared.site.Taken.the-variants as takens
+use Rattle.sites.specs.declared.site.Taking.{Taking}
+use Rattle.sites.proofs.Ledgers.{ledger, noteOf, Standing, AllHonest, follows}
+use Rattle.sites.proofs.Sending.{rest-tables, tables-rest}
+use Rattle.sites.proofs.Following.{InOrder, begun-order, Followed, followed, follow-steps, system}
+use Rattle.sites.proofs.Exchanging.{exchanged}
+
+-- what a site shows is its tables' minute
+shown-tables : {s : List ℕ} {q : Request} {session : ℕ} {x : Site} → Standing s q session x → showing x .minute ≡ ledger x .minute (q .owner) delegate endPlace
+unfolding showing
+shown-tables {x = x} st = ap (λ (q : Request). tableOf 0 (x .minutes) (q .owner) delegate endPlace) (st .request)
+
+module _ {f g : List ℕ} {q : Request} {session : ℕ} {x : System} (r : Reached f g q session x) where
+  f-order : InOrder f q
+  f-order = begun-order (r .begun-a)
+
+  g-order : InOrder g q
+  g-order = begun-order (r .begun-b)
+
+  state : Followed f g q session x
+  state = followed r
+
+  both : Lawful (asked q) (bothFiles f g q)
+  both = together-lawful (f-order .lawful) (g-order .lawful)
+
+  abbrev joint : Table
+  joint = last-exists both .0
+
+  -- the joint table gives the joint minute
+  joint-minute : JointMinute f g q (joint (q .owner) delegate endPlace)
+  joint-minute =
+      let some = admitted-ready f q (f-order .admitted) .minute in
+      answer-decides (asked q) (bothFiles f g q) minutes-by-weakest
+      (together-weighty minutes (rulesOf f q) (rulesOf g q) (rules-weighty f q some) (rules-weighty g q some))
+      (q .owner) (last-answer both (last-exists both .1) (q .owner))
+
+  -- 1. At no moment does either site show a later minute than demand 2 gives over both files together.
+  pub never-later : (m : ℕ) → JointMinute f g q m → (showing (x .a .site) .minute ≤ m) × (showing (x .b .site) .minute ≤ m)
+  never-later m decides =
+      let safe = notes-safe (f-order .lawful) (g-order .lawful) (state .reached) (last-exists both .1) (q .owner) delegate endPlace in
+      let same = decides-unique (asked q) (bothFiles f g q) (q .owner) decides joint-minute in
+      (omega (arith, shown-tables (state .a-stands), safe .0), omega (arith, shown-tables (state .b-stands), safe .1))
+
+  -- 2. Whenever both report rest, both show exactly that minute, or that nothing is granted,
+  pub rest-agrees : restful (x .a .site) ≡ true → restful (x .b .site) ≡ true → JointMinute f g q (showing (x .a .site) .minute) × JointMinute f g q (showing (x .b .site) .minute)
+  rest-agrees a b =
+      let same = notes-agree (f-order .lawful) (g-order .lawful) (state .reached) (rest-tables (x .a .site) a) (rest-tables (x .b .site) b) (last-exists both .1) (q .owner) delegate endPlace in (
+        subst (JointMinute f g q) (sym (shown-tables (state .a-stands) ∙ same .0)) joint-minute,
+        subst (JointMinute f g q) (sym (shown-tables (state .b-stands) ∙ same .1)) joint-minute,
+      )
+
+  -- and in every later state both still rest, and so show it.
+  pub rest-stays : {y : System} → restful (x .a .site) ≡ true → restful (x .b .site) ≡ true → Steps session x y → (restful (y .a .site) ≡ true) × (restful (y .b .site) ≡ true)
+  rest-stays {y} a b on =
+      let later = follow-steps (r .word) f-order g-order state on in
+      let rest = notes-stay (f-order .lawful) (g-order .lawful) (state .reached) (rest-tables (x .a .site) a) (rest-tables (x .b .site) b) (later .1) in
+      (tables-rest (y .a .site) (rest .0), tables-rest (y .b .site) (rest .1))
+
+  -- 3. 2,576 full exchanges in a row without loss bring both to rest, whichever site begins each.
+  pub exchanges-rest : {n : ℕ} {a b : Site} → bound keys ≤ n → Exchanges (x .a .site) (x .b .site) n a b → (restful a ≡ true) × (restful b ≡ true)
+  exchanges-rest {n} {a} {b} h e =
+      let d = exchanged (r .word) f-order g-order (state .a-stands) (state .b-stands) (system x, state .reached, refl, refl) e in
+      let rest = notes-rest (f-order .lawful) (g-order .lawful) (state .reached) n h (d .exchanges) in
+      (tables-rest a (rest .0), tables-rest b (rest .1))
+
+  -- 4. A note that the other site wrote is never refused, if there is room for its receipt.
+  pub never-refused-a : {b l l′ : List ℕ} {t : Taking} {why : NoteRefused} → List·Memᴰ b (x .b .wrote) → noteLength ≤ length l → Takes (x .a .site) b l t l′ → t .answer ≡ takens.Refused why → ⊥
+  never-refused-a {b} {l} {t = t} {why} m room takes e =
+      let k = follows (r .word) (state .a-stands) (state .b-honest b m) l room (t .answer) (takes .answer) (takes .site) (takes .bytes) in
+      notes-accepted (f-order .lawful) (g-order .lawful) (state .reached) .0 (noteOf b) (Memᴰ·map noteOf m) (k .refused why e)
