@@ -1,45 +1,52 @@
+-- `copy_bytes` meets its contract. The loop's invariant: the bytes passed are copied, and the rest is as it was. The measure is what is left.
+use mathlib.Core.Path.{_≡_, refl, ap, _∙_}
+use mathlib.Core.List.{_++_}
+use Prim.Native.Nat.{_≤_, _-_}
+use native.Mathlib.Omega.{arith}
+use denote.Ref.{now}
+use lib.ListN.{length, length-set, take, drop}
+use lib.Seq.{take-length}
+use Rattle.sites.proofs.SiteLaws.{copied-more}
 use Rattle.sites.proofs.site.copy_bytes.Statement.{statement}
 use Rattle.sites.proofs.site.copy_bytes.Tie as tie
-use Rattle.sites.proofs.site.copy_bytes.Reads as reads
-use Rattle.sites.proofs.site.copy_bytes.Lts as lts
 
 abbrev Inv-loop : tie.InvT-loop
-Inv-loop from to₀ i₀ i-end to i = ?
+Inv-loop from to₀ i₀ i-end to i = (i ≤ length from) × (i-end ≡ length from) × (length to ≡ length to₀) × (to ≡ take i from ++ drop i to₀)
 
 abbrev μ-loop : tie.MeasureT-loop
-μ-loop from to₀ i₀ i-end to i = ?
+μ-loop from to₀ i₀ i-end to i = length from - i
 
--- src/site.rt:71:5
 loop-holds : tie.Need-loop-holds Inv-loop μ-loop
-loop-holds c = ?
+loop-holds c = (omega arith, refl, refl, refl)
 
--- src/site.rt:72:17
 shared-slice-read-to : tie.Need-shared-slice-read-to Inv-loop μ-loop
-shared-slice-read-to c = ?
+shared-slice-read-to c = omega arith
 
--- src/site.rt:72:9
 slice-write-to : tie.Need-slice-write-to Inv-loop μ-loop
-slice-write-to c = ?
+slice-write-to c = omega arith
 
--- src/site.rt:71:9
 add-i : tie.Need-add-i Inv-loop μ-loop
-add-i c = ?
+add-i c = omega arith
 
--- src/site.rt:71:5
 loop-less : tie.Need-loop-less Inv-loop μ-loop
-loop-less c = ?
+loop-less c = omega arith
 
--- src/site.rt:71:5
 loop-again : tie.Need-loop-again Inv-loop μ-loop
-loop-again c = ?
+loop-again c =
+    let h = c .before .before .loop in
+    let from = now (c .before .before .before .args .from) in
+    let to₀ = now (c .before .before .before .args .to) in
+    (omega arith, h .inv .1, simp length-set (h .inv .2), rw (h .inv .3) (copied-more (h .i) from to₀ (omega arith) (omega arith)))
 
--- src/site.rt:67:1
 same-length : tie.Need-same-length Inv-loop μ-loop
-same-length c = ?
+same-length c = c .before .loop .inv .2
 
--- src/site.rt:67:1
 returns : tie.Need-returns Inv-loop μ-loop
-returns c = ?
+returns c =
+    let h = c .before .loop in
+    let from = now (c .before .before .args .from) in
+    let e : h .i ≡ length from = omega arith in
+    h .inv .3 ∙ rw (e, take-length from)
 
 pub copy-bytes-spec : {M : Type 1} → statement M
 copy-bytes-spec =

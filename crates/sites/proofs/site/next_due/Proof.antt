@@ -1,53 +1,58 @@
+-- `next_due` meets its contract. The loop's invariant: no entry passed is due. The measure is what is left.
+use mathlib.Core.Path.{_≡_}
+use mathlib.Core.Logic.{⊎-elim}
+use Prim.Native.Nat.{ℕ, _<_, _≤_, _-_}
+use native.Mathlib.Nat.{eq-or-lt-of-le}
+use native.Mathlib.Omega.{arith}
+use borrow.Author.Needs.{needs}
+use Rattle.wac.specs.Limits.{entries}
+use Rattle.sites.specs.Site.{minuteAt, receiptedAt}
 use Rattle.sites.proofs.site.next_due.Statement.{statement}
 use Rattle.sites.proofs.site.next_due.Tie as tie
-use Rattle.sites.proofs.site.next_due.Reads as reads
-use Rattle.sites.proofs.site.next_due.Lts as lts
 
 abbrev Inv-loop : tie.InvT-loop
-Inv-loop from site entry₀ entry = ?
+Inv-loop from site entry₀ entry = (from ≤ entry) × ((d : ℕ) → from ≤ d → d < entry → minuteAt site d ≤ receiptedAt site d)
 
 abbrev μ-loop : tie.MeasureT-loop
-μ-loop from site entry₀ entry = ?
+μ-loop from site entry₀ entry = entries - entry
 
--- src/site.rt:342:5
 loop-holds : tie.Need-loop-holds Inv-loop μ-loop
-loop-holds c = ?
+loop-holds c = (search needs, λ d l h. absurd (omega arith))
 
--- src/site.rt:343:12
 mul-if1 : tie.Need-mul-if1 Inv-loop μ-loop
-mul-if1 c = ?
+mul-if1 c = search needs
 
--- src/site.rt:343:12
 element-copy-out-if1 : tie.Need-element-copy-out-if1 Inv-loop μ-loop
-element-copy-out-if1 c = ?
+element-copy-out-if1 c = search needs
 
--- src/site.rt:343:36
 mul-if1-2 : tie.Need-mul-if1-2 Inv-loop μ-loop
-mul-if1-2 c = ?
+mul-if1-2 c = search needs
 
--- src/site.rt:343:36
 element-copy-out-if1-2 : tie.Need-element-copy-out-if1-2 Inv-loop μ-loop
-element-copy-out-if1-2 c = ?
+element-copy-out-if1-2 c = search needs
 
--- src/site.rt:344:13
 returns : tie.Need-returns Inv-loop μ-loop
-returns c = ?
+returns c =
+    let h = c .before .before .before .before .loop in
+    record { before = λ d l b low due. absurd (omega (arith, h .inv .1 d l b)); due = λ l. (h .inv .0, c .if1 .taken) }
 
--- src/site.rt:346:9
 add-entry : tie.Need-add-entry Inv-loop μ-loop
-add-entry c = ?
+add-entry c = omega arith
 
--- src/site.rt:342:5
 loop-less : tie.Need-loop-less Inv-loop μ-loop
-loop-less c = ?
+loop-less c = omega arith
 
--- src/site.rt:342:5
 loop-again : tie.Need-loop-again Inv-loop μ-loop
-loop-again c = ?
+loop-again c =
+    let h = c .before .before .before .before .loop in (
+    omega arith,
+    λ d l b. ⊎-elim (λ (q : d ≡ h .entry). rw q (c .if1 .left)) (λ m. h .inv .1 d l m) (eq-or-lt-of-le (let z : d ≤ h .entry = omega arith in z)),
+    )
 
--- src/site.rt:338:1
 returns-2 : tie.Need-returns-2 Inv-loop μ-loop
-returns-2 c = ?
+returns-2 c =
+    let h = c .before .loop in
+    record { before = λ d l b low due. absurd (omega (arith, h .inv .1 d l (omega arith))); due = λ l. absurd (omega arith) }
 
 pub next-due-spec : {M : Type 1} → statement M
 next-due-spec =

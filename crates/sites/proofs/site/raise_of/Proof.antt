@@ -19,7 +19,7 @@ element-copy-out-t11 : tie.Need-element-copy-out-t11
 element-copy-out-t11 c = search needs
 
 returns : tie.Need-returns
-returns c = simp (c .before .before .key-of .ensures, c .before .symbol-of .ensures, c .arrival-of .ensures)
+returns c = simp (c .before .before .before .key-of .ensures, c .before .before .symbol-of .ensures, c .before .arrival-of .ensures)
 
 pub raise-of-spec : {M : Type 1} → statement M
 raise-of-spec =

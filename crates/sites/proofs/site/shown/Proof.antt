@@ -1,33 +1,35 @@
+-- `shown` meets its contract: the owner's mark 10 entry, and 0 where there is no such entry.
+use mathlib.Core.Path.{ap, _∙_, sym}
+use native.Mathlib.Omega.{arith}
+use Rattle.sites.specs.Site.{showing}
+use Rattle.sites.proofs.SiteLaws.{table-none, table-there}
 use borrow.Author.Needs.{needs}
 use Rattle.sites.proofs.site.shown.Statement.{statement}
 use Rattle.sites.proofs.site.shown.Tie as tie
-use Rattle.sites.proofs.site.shown.Reads as reads
-use Rattle.sites.proofs.site.shown.Lts as lts
-use Rattle.decision.proofs.entry_number.Reads as entry-number-reads
 
--- src/site.rt:402:17
 cast-owner : tie.Need-cast-owner
 cast-owner c = search needs
 
--- src/site.rt:403:9
 entry-number-requires : tie.Need-entry-number-requires
 entry-number-requires c κs = search needs
 
--- src/site.rt:405:9
 returns : tie.Need-returns
-returns c = ?
+unfolding showing
+returns c =
+    let e = c .before .entry-number .ensures in
+    rw (table-none (c .before .before .args .t1 .request .owner) 10 16 (c .before .before .args .t1 .minutes) (omega (arith, c .if1 .taken)))
 
--- src/site.rt:410:18
 mul-minute : tie.Need-mul-minute
 mul-minute c = search needs
 
--- src/site.rt:410:18
 element-copy-out-minute : tie.Need-element-copy-out-minute
 element-copy-out-minute c = search needs
 
--- src/site.rt:399:1
 returns-2 : tie.Need-returns-2
-returns-2 c = ?
+unfolding showing
+returns-2 c =
+    let e = c .before .before .entry-number .ensures in
+    rw (table-there (c .before .before .before .args .t1 .request .owner) 10 16 (c .before .before .before .args .t1 .minutes) (omega (arith, c .before .if1 .left)), ← e)
 
 pub shown-spec : {M : Type 1} → statement M
 shown-spec =

@@ -1,37 +1,32 @@
+-- `start_minutes` meets its contract: the asker's two marks are without end.
+use mathlib.Core.Logic.{inl, inr}
+use mathlib.Core.Path.{refl}
+use native.Mathlib.Omega.{arith}
+use Rattle.sites.proofs.SiteLaws.{mark-low, start-set}
 use borrow.Author.Needs.{needs}
 use Rattle.sites.proofs.site.start_minutes.Statement.{statement}
 use Rattle.sites.proofs.site.start_minutes.Tie as tie
-use Rattle.sites.proofs.site.start_minutes.Reads as reads
-use Rattle.sites.proofs.site.start_minutes.Lts as lts
-use Rattle.decision.proofs.entry_number.Reads as entry-number-reads
 
--- src/site.rt:82:9
 entry-number-requires : tie.Need-entry-number-requires
 entry-number-requires c κs = search needs
 
--- src/site.rt:83:9
 entry-number-requires-2 : tie.Need-entry-number-requires-2
 entry-number-requires-2 c κs = search needs
 
--- src/site.rt:84:5
 mul-minutes : tie.Need-mul-minutes
-mul-minutes c = ?
+mul-minutes c = omega (arith, mark-low _ (c .before .before .pre) 10 (inl refl), c .before .entry-number .ensures)
 
--- src/site.rt:84:5
 array-write-minutes : tie.Need-array-write-minutes
-array-write-minutes c = ?
+array-write-minutes c = omega (arith, mark-low _ (c .before .before .pre) 10 (inl refl), c .before .entry-number .ensures)
 
--- src/site.rt:85:5
 mul-minutes-2 : tie.Need-mul-minutes-2
-mul-minutes-2 c = ?
+mul-minutes-2 c = omega (arith, mark-low _ (c .before .before .pre) 11 (inr refl), c .entry-number2 .ensures)
 
--- src/site.rt:85:5
 array-write-minutes-2 : tie.Need-array-write-minutes-2
-array-write-minutes-2 c = ?
+array-write-minutes-2 c = omega (arith, mark-low _ (c .before .before .pre) 11 (inr refl), c .entry-number2 .ensures)
 
--- src/site.rt:77:1
 returns : tie.Need-returns
-returns c = ?
+returns c = start-set _ (c .before .before .pre) _ _ _ refl (c .before .entry-number .ensures) (c .entry-number2 .ensures)
 
 pub start-minutes-spec : {M : Type 1} → statement M
 start-minutes-spec =

@@ -1,0 +1,2 @@
+-- The laws of the sites, beside the proofs of their functions.
+pub mod SiteLaws
