@@ -10,14 +10,16 @@ use borrow.Author.Tests.{ltb-true, ltb-false, leb-true, leb-false, eqb-true, lt-
 use lib.Dec.{leb, ltb, eqb}
 use lib.ListN.{length, getD, take, drop, set, replicate, length-set, length-replicate}
 use lib.Seq.{length-take-le, take-all, take-suc, drop-cons, set-at, append-snoc}
-use Rattle.wac.specs.Limits.{keys, delegate, access, endPlace, entries, withoutEnd}
-use Rattle.wac.specs.Answers.{gives, refuses, firstOf}
+use Rattle.wac.specs.Limits.{keys, delegate, access, endPlace, entries, withoutEnd, largestFile}
+use Rattle.wac.specs.Answers.{gives, refuses, _if_, firstOf}
 use Rattle.wac.specs.Ranges.{allBelow}
 use Rattle.wac.proofs.Cases.{first-none, first-holds, first-fails, first-passed}
 use Rattle.wac.proofs.Tests.{and-true, false-and, and-both, and-false, allBelow-true, allBelow-false}
 use Rattle.rewriting.specs.Weighing.{minutes}
 use Rattle.rewriting.specs.Entries.{Mark}
 use Rattle.decision.specs.Table.{isEntry, number, entryNumber, tableOf}
+use Rattle.wac.proofs.FileLaws.{file-kept}
+use Rattle.decision.specs.Engine.{Accepted}
 use Rattle.decision.specs.Question.{Settles, Settles.refused, Settles.settled}
 use Rattle.decision.specs.declared.request.Request.{Request}
 use Rattle.decision.specs.declared.lens.Lens.the-variants.{Minutes}
@@ -28,7 +30,7 @@ use Rattle.decision.proofs.Choices.{when-true, when-false}
 use Rattle.decision.proofs.TableLaws.{number-low}
 use Rattle.decision.proofs.PassingLaws.{asker-entry, started}
 use Rattle.sites.specs.Notes.{noteLength, raiseKind, receiptKind, noteFrom, formed, noteOk}
-use Rattle.sites.specs.Site.{startOf, minuteAt, receiptedAt, entryOf, noteCases, NextDue}
+use Rattle.sites.specs.Site.{copied, startOf, openedSite, minuteAt, receiptedAt, entryOf, noteCases, NextDue, restful}
 use Rattle.sites.specs.declared.note.Note.{Note}
 use Rattle.sites.specs.declared.site.Site.{Site}
 
@@ -92,18 +94,9 @@ module _ (n : Note) where
       ltb-true _ _ (entry-test _ _ _ ∙ symbol .1)
 
 -- bytes that say a note in order
-module _ (b : List ℕ) where
-  pub wrong-length : (length b ≡ noteLength → ⊥) → noteOk b ≡ false
-  unfolding noteOk
-  wrong-length h = false-and _ _ (ne-eqb _ _ h)
-
-  pub right-length : length b ≡ noteLength → noteOk b ≡ formed (noteFrom b)
-  unfolding noteOk
-  right-length e = and-true _ _ (eq-eqb _ _ e)
-
-  pub note-whole : noteOk b ≡ true → (length b ≡ noteLength) × (formed (noteFrom b) ≡ true)
-  unfolding noteOk
-  note-whole ok = let both = and-both _ _ ok in (eqb-true _ _ (both .0), both .1)
+pub note-whole : (b : List ℕ) → noteOk b ≡ true → (length b ≡ noteLength) × (formed (noteFrom b) ≡ true)
+unfolding noteOk
+note-whole b ok = let both = and-both _ _ ok in (eqb-true _ _ (both .0), both .1)
 
 -- what becomes of a note, case by case
 module _ (x : Site) (b : List ℕ) (room kind : ℕ) where
@@ -112,35 +105,52 @@ module _ (x : Site) (b : List ℕ) (room kind : ℕ) where
   few-bytes h = first-holds _ _ _ (lt-ltb _ _ h)
 
   module _ (h : noteLength ≤ room) where
-    pub ill-formed : noteOk b ≡ false → firstOf (noteCases x b room) kind ≡ refuses 27 []
-    unfolding noteCases
-    ill-formed e = first-fails _ _ _ (le-ltb _ _ h) ∙ first-holds _ _ _ (ap not e)
+    pub wrong-length : (length b ≡ noteLength → ⊥) → firstOf (noteCases x b room) kind ≡ refuses 27 []
+    unfolding noteCases noteOk
+    wrong-length n = first-fails _ _ _ (le-ltb _ _ h) ∙ first-holds _ _ _ (ap not (false-and _ _ (ne-eqb _ _ n)))
 
-    module _ (ok : noteOk b ≡ true) where
-      pub other-session : (x .live && eqb (noteFrom b .session) (x .session)) ≡ false → firstOf (noteCases x b room) kind ≡ refuses 26 []
-      unfolding noteCases
-      other-session e = first-fails _ _ _ (le-ltb _ _ h) ∙ first-fails _ _ _ (ap not ok) ∙ first-holds _ _ _ (ap not e)
+    module _ (long : length b ≡ noteLength) (said : Note) (says : said ≡ noteFrom b) where
+      pub ill-formed : formed said ≡ false → firstOf (noteCases x b room) kind ≡ refuses 27 []
+      unfolding noteCases noteOk
+      ill-formed e = first-fails _ _ _ (le-ltb _ _ h) ∙ first-holds _ _ _ (ap not (and-true _ _ (eq-eqb _ _ long) ∙ ap formed (sym says) ∙ e))
 
-      module _ (live : x .live ≡ true) (same : noteFrom b .session ≡ x .session) where
-        passed : firstOf (noteCases x b room) kind ≡ firstOf (record { number = 28; values = []; holds = eqb (noteFrom b .kind) receiptKind && ltb (minuteAt x (entryOf (noteFrom b))) (noteFrom b .minute) } ∷ []) kind
-        unfolding noteCases
-        passed = first-fails _ _ _ (le-ltb _ _ h) ∙ first-fails _ _ _ (ap not ok) ∙ first-fails _ _ _ (ap not (and-true _ _ live ∙ eq-eqb _ _ same))
+      module _ (ok : formed said ≡ true) where
+        well-formed : firstOf (noteCases x b room) kind ≡ firstOf ((26 if not (x .live && eqb (said .session) (x .session))) ∷ (28 if eqb (said .kind) receiptKind && ltb (minuteAt x (entryOf said)) (said .minute)) ∷ []) kind
+        unfolding noteCases noteOk
+        well-formed =
+            first-fails _ _ _ (le-ltb _ _ h) ∙ first-fails _ _ _ (ap not (and-true _ _ (eq-eqb _ _ long) ∙ ap formed (sym says) ∙ ok))
+            ∙ ap (λ n. firstOf ((26 if not (x .live && eqb (n .session) (x .session))) ∷ (28 if eqb (n .kind) receiptKind && ltb (minuteAt x (entryOf n)) (n .minute)) ∷ []) kind) (sym says)
 
-        pub later-minute : noteFrom b .kind ≡ receiptKind → minuteAt x (entryOf (noteFrom b)) < noteFrom b .minute → firstOf (noteCases x b room) kind ≡ refuses 28 []
-        later-minute e l = passed ∙ first-holds _ _ _ (and-true _ _ (eq-eqb _ _ e) ∙ lt-ltb _ _ l)
+        pub not-live : x .live ≡ false → firstOf (noteCases x b room) kind ≡ refuses 26 []
+        not-live e = well-formed ∙ first-holds _ _ _ (ap not (false-and _ _ e))
 
-        pub taken-raise : noteFrom b .kind ≡ raiseKind → firstOf (noteCases x b room) kind ≡ gives kind
-        taken-raise e = passed ∙ first-fails _ _ _ (false-and _ _ (ap (λ n. eqb n receiptKind) e)) ∙ first-none _
+        module _ (live : x .live ≡ true) where
+          pub other-session : (said .session ≡ x .session → ⊥) → firstOf (noteCases x b room) kind ≡ refuses 26 []
+          other-session n = well-formed ∙ first-holds _ _ _ (ap not (and-true _ _ live ∙ ne-eqb _ _ n))
 
-        pub taken-receipt : noteFrom b .minute ≤ minuteAt x (entryOf (noteFrom b)) → firstOf (noteCases x b room) kind ≡ gives kind
-        taken-receipt l = passed ∙ first-fails _ _ _ (ap (λ t. eqb (noteFrom b .kind) receiptKind && t) (le-ltb _ _ l) ∙ and-false (eqb (noteFrom b .kind) receiptKind)) ∙ first-none _
+          module _ (same : said .session ≡ x .session) where
+            this-session : firstOf (noteCases x b room) kind ≡ firstOf ((28 if eqb (said .kind) receiptKind && ltb (minuteAt x (entryOf said)) (said .minute)) ∷ []) kind
+            this-session = well-formed ∙ first-fails _ _ _ (ap not (and-true _ _ live ∙ eq-eqb _ _ same))
+
+            pub taken-raise : said .kind ≡ raiseKind → firstOf (noteCases x b room) kind ≡ gives kind
+            taken-raise e = this-session ∙ first-fails _ _ _ (false-and _ _ (ap (λ n. eqb n receiptKind) e)) ∙ first-none _
+
+            module _ (e : ℕ) (at : e ≡ entryOf said) where
+              pub later-minute : said .kind ≡ receiptKind → minuteAt x e < said .minute → firstOf (noteCases x b room) kind ≡ refuses 28 []
+              later-minute k l = this-session ∙ first-holds _ _ _ (and-true _ _ (eq-eqb _ _ k) ∙ ap (λ i. ltb (minuteAt x i) (said .minute)) (sym at) ∙ lt-ltb _ _ l)
+
+              pub taken-receipt : said .minute ≤ minuteAt x e → firstOf (noteCases x b room) kind ≡ gives kind
+              taken-receipt l =
+                  let low = ap (λ i. ltb (minuteAt x i) (said .minute)) (sym at) ∙ le-ltb _ _ l in
+                  this-session ∙ first-fails _ _ _ (ap (λ t. eqb (said .kind) receiptKind && t) low ∙ and-false (eqb (said .kind) receiptKind)) ∙ first-none _
 
   -- a note that is taken has room for its receipt, and is in order
-  pub note-taken : {n : ℕ} → firstOf (noteCases x b room) kind ≡ gives n → (noteLength ≤ room) × (noteOk b ≡ true)
+  pub note-taken : {n : ℕ} → firstOf (noteCases x b room) kind ≡ gives n → (noteLength ≤ room) × (length b ≡ noteLength) × (formed (noteFrom b) ≡ true)
   unfolding noteCases
   note-taken e =
       let first = first-passed _ _ _ e in
-      (ltb-false _ _ (first .0), not-false _ (first-passed _ _ _ (first .1) .0))
+      let whole = note-whole b (not-false _ (first-passed _ _ _ (first .1) .0)) in
+      (ltb-false _ _ (first .0), whole .0, whole .1)
 
 -- copying one byte more
 pub copied-more : (i : ℕ) (from to : List ℕ) → i < length from → i < length to → set (take i from ++ drop i to) i (getD from i 0) ≡ take (i + 1) from ++ drop (i + 1) to
@@ -167,6 +177,20 @@ module _ (asker : ℕ) (h : asker < keys) where
       sym (take-all entries (set (set l n withoutEnd) m withoutEnd) low)
       ∙ started Minutes asker h l (omega arith) (take-all entries l (omega arith) ∙ none) n m withoutEnd (d ∙ mark-number delegate (inl refl)) (e ∙ mark-number access (inr refl)) refl .0
 
+-- a site of the copied bytes and the start is the opened site
+pub opened-with : (s : List ℕ) (q : Request) (session : ℕ) (file minutes : List ℕ) → file ≡ copied s (replicate largestFile 0) → minutes ≡ startOf (q .asker) →
+    record { file = file; used = length s; request = q; session = session; live = true; minutes = minutes; receipted = minutes; idle = false } ≡ openedSite s q session
+unfolding openedSite
+opened-with s q session file minutes e f = rw (e, f)
+
+-- an accepted file is no longer than the largest
+pub file-low : (s : List ℕ) → Accepted s → length s ≤ largestFile
+file-low s e =
+    let framed = file-kept s e .0 in
+    let few = framed .few in
+    let sized = framed .sized in
+    omega arith
+
 -- a table that is refused stays as it was
 pub settle-stays : {s : List ℕ} {q : Request} {r : Settling} {t t′ : List ℕ} (why : Refused) → Settles s q r t t′ → r ≡ settlings.Refused why → Settles s q (settlings.Refused why) t t
 settle-stays why (refused w case e same) f = refused w case (sym f ∙ e) refl
@@ -180,9 +204,14 @@ module _ (x : Site) where
     due = λ l. absurd (omega arith);
   }
 
-  -- none is due from 0 on exactly if no minute is above its receipted minute
-  pub rest-test : (e : ℕ) → NextDue x 0 e → leb entries e ≡ allBelow entries (λ d. leb (minuteAt x d) (receiptedAt x d))
-  rest-test e next = turn (leb entries e) refl
+  -- a site that has to work does not rest, and one that has worked rests exactly if none is due from 0 on
+  pub not-idle : x .idle ≡ false → restful x ≡ false
+  unfolding restful
+  not-idle e = false-and _ _ e
+
+  pub idle-rest : x .idle ≡ true → (e : ℕ) → NextDue x 0 e → leb entries e ≡ restful x
+  unfolding restful
+  idle-rest idle e next = turn (leb entries e) refl ∙ sym (and-true _ _ idle)
     where
       none : (d : ℕ) (t : Bool) → leb (minuteAt x d) (receiptedAt x d) ≡ t → (receiptedAt x d < minuteAt x d → ⊥) → t ≡ true
       none d true e h = refl

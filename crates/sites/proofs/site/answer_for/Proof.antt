@@ -1,63 +1,69 @@
+-- `answer_for` meets its contract, case by case.
+use mathlib.Core.Bool.{true}
+use mathlib.Core.Path.{_≡_, sym, ap, _∙_}
+use Prim.Native.Nat.{_<_}
+use native.Mathlib.Omega.{arith}
+use borrow.Author.Tests.{not-true, not-false}
+use Rattle.wac.specs.Limits.{entries}
+use Rattle.wac.specs.Answers.{gives}
+use Rattle.sites.specs.Notes.{formed}
+use Rattle.sites.proofs.SiteLaws.{other-kind, entry-low, few-bytes, wrong-length, ill-formed, not-live, other-session, taken-raise, later-minute, taken-receipt}
 use borrow.Author.Needs.{needs}
 use Rattle.sites.proofs.site.answer_for.Statement.{statement}
 use Rattle.sites.proofs.site.answer_for.Tie as tie
-use Rattle.sites.proofs.site.answer_for.Reads as reads
-use Rattle.sites.proofs.site.answer_for.Lts as lts
-use Rattle.sites.proofs.note.entry_of.Reads as entry-of-reads
-use Rattle.sites.proofs.note.is_formed.Reads as is-formed-reads
-use Rattle.sites.proofs.note.note_from.Reads as note-from-reads
 
--- src/site.rt:261:9
+in-order : (c : tie.Else3) → formed (c .before .before .note-from .result) ≡ true
+in-order c = sym (c .before .is-formed .ensures) ∙ not-false _ (c .if3 .left)
+
+low : (c : tie.After-entry-of) → c .entry-of .result < entries
+low c = let e = c .entry-of .ensures in let l = entry-low _ (in-order (c .before .before .before .before .before .before)) in omega arith
+
 returns : tie.Need-returns
-returns c = ?
+returns c = sym (few-bytes _ _ _ _ (c .if1 .taken))
 
--- src/site.rt:264:9
 returns-2 : tie.Need-returns-2
-returns-2 c = ?
+returns-2 c = sym (wrong-length _ _ _ _ (c .before .if1 .left) (c .if2 .taken))
 
--- src/site.rt:266:9
 note-from-requires : tie.Need-note-from-requires
 note-from-requires c κs = search needs
 
--- src/site.rt:267:9
 is-formed-requires : tie.Need-is-formed-requires
 is-formed-requires c κs = search needs
 
--- src/site.rt:268:9
 returns-3 : tie.Need-returns-3
-returns-3 c = ?
+returns-3 c = sym (ill-formed _ _ _ _ (c .before .before .before .before .if1 .left) (c .before .before .before .if2 .left) _ (c .before .before .note-from .ensures) (sym (c .before .is-formed .ensures) ∙ not-true _ (c .if3 .taken)))
 
--- src/site.rt:271:9
 returns-4 : tie.Need-returns-4
-returns-4 c = ?
+returns-4 c = sym (not-live _ _ _ _ (c .before .before .before .before .before .if1 .left) (c .before .before .before .before .if2 .left) _ (c .before .before .before .note-from .ensures) (in-order (c .before)) (not-true _ (c .if4 .taken)))
 
--- src/site.rt:274:9
 returns-5 : tie.Need-returns-5
-returns-5 c = ?
+returns-5 c =
+    sym (other-session _ _ _ _ (c .before .before .before .before .before .before .before .if1 .left) (c .before .before .before .before .before .before .if2 .left) _ (c .before .before .before .before .before .note-from .ensures) (in-order (c .before .before .before)) (not-false _ (c .before .before .if4 .left)) (c .if5 .taken))
 
--- src/site.rt:277:9
 returns-6 : tie.Need-returns-6
-returns-6 c = ?
+returns-6 c =
+    let is = ap (λ n. gives (n .kind)) (c .before .before .before .before .before .before .before .note-from .ensures) in
+    ap gives (sym (c .if6 .taken)) ∙ is ∙ sym (taken-raise _ _ _ _ (c .before .before .before .before .before .before .before .before .before .if1 .left) (c .before .before .before .before .before .before .before .before .if2 .left) _ (c .before .before .before .before .before .before .before .note-from .ensures) (in-order (c .before .before .before .before .before)) (not-false _ (c .before .before .before .before .if4 .left)) (c .before .before .if5 .left) (c .if6 .taken))
 
--- src/site.rt:279:9
 entry-of-requires : tie.Need-entry-of-requires
 entry-of-requires c κs = search needs
 
--- src/site.rt:280:8
 mul-if7 : tie.Need-mul-if7
-mul-if7 c = ?
+mul-if7 c = let l = low c in omega arith
 
--- src/site.rt:280:8
 element-copy-out-if7 : tie.Need-element-copy-out-if7
-element-copy-out-if7 c = ?
+element-copy-out-if7 c = low c
 
--- src/site.rt:281:9
 returns-7 : tie.Need-returns-7
-returns-7 c = ?
+returns-7 c =
+    sym (later-minute _ _ _ _ (c .before .before .before .before .before .before .before .before .before .before .before .before .before .if1 .left) (c .before .before .before .before .before .before .before .before .before .before .before .before .if2 .left) _ (c .before .before .before .before .before .before .before .before .before .before .before .note-from .ensures) (in-order (c .before .before .before .before .before .before .before .before .before)) (not-false _ (c .before .before .before .before .before .before .before .before .if4 .left)) (c .before .before .before .before .before .before .if5 .left) _ (c .before .before .before .entry-of .ensures)
+    (other-kind _ (in-order (c .before .before .before .before .before .before .before .before .before)) (c .before .before .before .before .if6 .left)) (c .if7 .taken))
 
--- src/site.rt:257:1
 returns-8 : tie.Need-returns-8
-returns-8 c = ?
+returns-8 c =
+    let is = ap (λ n. gives (n .kind)) (c .before .before .before .before .before .before .before .before .before .before .before .note-from .ensures) in
+    ap gives (sym (other-kind _ (in-order (c .before .before .before .before .before .before .before .before .before)) (c .before .before .before .before .if6 .left))) ∙ is
+    ∙ sym (taken-receipt _ _ _ _ (c .before .before .before .before .before .before .before .before .before .before .before .before .before .if1 .left) (c .before .before .before .before .before .before .before .before .before .before .before .before .if2 .left) _ (c .before .before .before .before .before .before .before .before .before .before .before .note-from .ensures) (in-order (c .before .before .before .before .before .before .before .before .before)) (not-false _ (c .before .before .before .before .before .before .before .before .if4 .left)) (c .before .before .before .before .before .before .if5 .left) _ (c .before .before .before .entry-of .ensures) (c .if7 .left))
 
 pub answer-for-spec : {M : Type 1} → statement M
 answer-for-spec =

@@ -1,39 +1,36 @@
+-- `next` meets its contract: the note of the lowest entry that is due.
+use mathlib.Core.Path.{refl, ap, _∙_}
+use denote.Ref.{now}
+use lib.Seq.{sets}
+use Rattle.sites.specs.Notes.{noteBytes}
+use Rattle.sites.specs.Site.{Sends.refused, Sends.note, Sends.nothing}
+use Rattle.sites.proofs.SiteLaws.{none-due}
 use borrow.Author.Needs.{needs}
 use Rattle.sites.proofs.site.next.Statement.{statement}
 use Rattle.sites.proofs.site.next.Tie as tie
-use Rattle.sites.proofs.site.next.Reads as reads
-use Rattle.sites.proofs.site.next.Lts as lts
-use Rattle.sites.proofs.note.write_note.Reads as write-note-reads
-use Rattle.sites.proofs.site.next_due.Reads as next-due-reads
-use Rattle.sites.proofs.site.raise_of.Reads as raise-of-reads
 
--- src/site.rt:371:9
 returns : tie.Need-returns
-returns c = ?
+returns c = refused (c .if1 .taken) refl refl
 
--- src/site.rt:373:9
 next-due-requires : tie.Need-next-due-requires
 next-due-requires c κs = search needs
 
--- src/site.rt:375:9
 returns-2 : tie.Need-returns-2
-returns-2 c = ?
+returns-2 c = nothing (c .before .before .if1 .left) (none-due _ _ _ (c .if2 .taken) (c .before .next-due .ensures)) refl refl
 
--- src/site.rt:377:22
 raise-of-requires : tie.Need-raise-of-requires
 raise-of-requires c κs = search needs
 
--- src/site.rt:377:5
 write-note-requires : tie.Need-write-note-requires
 write-note-requires c κs = search needs
 
--- src/site.rt:367:1
 same-length : tie.Need-same-length
 same-length c = search needs
 
--- src/site.rt:367:1
 returns-3 : tie.Need-returns-3
-returns-3 c = ?
+returns-3 c =
+    let l = now (c .before .before .before .before .before .before .before .before .before .args .bytes) in
+    note (c .before .before .before .before .before .before .before .if1 .left) _ (c .before .before .before .before .before .if2 .left) (c .before .before .before .before .before .before .next-due .ensures) refl (c .before .before .write-note .ensures ∙ ap (λ n. sets l 0 (noteBytes n)) (c .before .before .before .before .raise-of .ensures))
 
 pub next-spec : {M : Type 1} → statement M
 next-spec =

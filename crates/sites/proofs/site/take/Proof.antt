@@ -1,79 +1,87 @@
+-- `take` meets its contract: what becomes of the note, and then the site and the receipt.
+use mathlib.Core.Path.{_≡_, refl, sym, ap, _∙_}
+use native.Mathlib.Omega.{arith}
+use denote.Ref.{now}
+use lib.Seq.{sets}
+use Rattle.sites.specs.Notes.{noteFrom, noteBytes}
+use Rattle.sites.specs.Site.{takenAs, entryOf, receiptOf, raisedSite, receiptedSite, siteAfter, bytesAfter}
+use Rattle.sites.proofs.SiteLaws.{entry-low, note-taken}
 use borrow.Author.Needs.{needs}
 use Rattle.sites.proofs.site.take.Statement.{statement}
 use Rattle.sites.proofs.site.take.Tie as tie
-use Rattle.sites.proofs.site.take.Reads as reads
-use Rattle.sites.proofs.site.take.Lts as lts
-use Rattle.sites.proofs.note.entry_of.Reads as entry-of-reads
-use Rattle.sites.proofs.note.note_from.Reads as note-from-reads
-use Rattle.sites.proofs.note.write_note.Reads as write-note-reads
-use Rattle.sites.proofs.site.answer_for.Reads as answer-for-reads
-use Rattle.sites.proofs.site.raise_at.Reads as raise-at-reads
-use Rattle.sites.proofs.site.receipt_at.Reads as receipt-at-reads
-use Rattle.sites.proofs.site.receipt_of.Reads as receipt-of-reads
 
--- src/site.rt:291:9
 answer-for-requires : tie.Need-answer-for-requires
 answer-for-requires c κs = search needs
 
--- src/site.rt:293:30
 enum-told : tie.Need-enum-told
 enum-told c = search needs
 
--- src/site.rt:298:17
 enum-told-2 : tie.Need-enum-told-2
 enum-told-2 c = search needs
 
--- src/site.rt:298:17
 note-from-requires : tie.Need-note-from-requires
-note-from-requires c κs = ?
+note-from-requires c κs = let t = note-taken _ _ _ _ (sym (c .before .before .answer-for .ensures) ∙ ap takenAs (c .enum-told2 .given .1)) in omega arith
 
--- src/site.rt:299:41
 entry-of-requires : tie.Need-entry-of-requires
 entry-of-requires c κs = search needs
 
--- src/site.rt:299:17
 raise-at-requires : tie.Need-raise-at-requires
-raise-at-requires c κs = ?
+raise-at-requires c κs =
+    let t = note-taken _ _ _ _ (sym (c .before .before .before .before .answer-for .ensures) ∙ ap takenAs (c .before .before .enum-told2 .given .1)) in
+    let e = c .entry-of .ensures ∙ ap entryOf (c .before .note-from .ensures) in
+    let l = entry-low _ (t .2) in omega arith
 
--- src/site.rt:300:30
 receipt-of-requires : tie.Need-receipt-of-requires
 receipt-of-requires c κs = search needs
 
--- src/site.rt:300:13
 write-note-requires : tie.Need-write-note-requires
-write-note-requires c κs = ?
+write-note-requires c κs = let t = note-taken _ _ _ _ (sym (c .before .before .before .before .before .before .before .answer-for .ensures) ∙ ap takenAs (c .before .before .before .before .before .enum-told2 .given .1)) in ?
 
--- src/site.rt:307:17
 enum-told-3 : tie.Need-enum-told-3
 enum-told-3 c = search needs
 
--- src/site.rt:307:17
 note-from-requires-2 : tie.Need-note-from-requires-2
-note-from-requires-2 c κs = ?
+note-from-requires-2 c κs = let t = note-taken _ _ _ _ (sym (c .before .before .answer-for .ensures) ∙ ap takenAs (c .enum-told3 .given .1)) in omega arith
 
--- src/site.rt:308:41
 entry-of-requires-2 : tie.Need-entry-of-requires-2
 entry-of-requires-2 c κs = search needs
 
--- src/site.rt:308:17
 receipt-at-requires : tie.Need-receipt-at-requires
-receipt-at-requires c κs = ?
+receipt-at-requires c κs =
+    let t = note-taken _ _ _ _ (sym (c .before .before .before .before .answer-for .ensures) ∙ ap takenAs (c .before .before .enum-told3 .given .1)) in
+    let e = c .entry-of2 .ensures ∙ ap entryOf (c .before .note-from2 .ensures) in
+    let l = entry-low _ (t .2) in omega arith
 
--- src/site.rt:288:1
 returns : tie.Need-returns
-returns c = ?
+returns c =
+    let args = c .before .before .before .before .before .args in
+    let told = c .enum-told .given .1 in
+    record { answer = c .before .before .answer-for .ensures; site = sym (ap (λ a. siteAfter a (args .t1) (noteFrom (now (args .bytes)))) told); bytes = sym (ap (λ a. bytesAfter a (now (args .receipt)) (noteFrom (now (args .bytes)))) told) }
 
--- src/site.rt:288:1
 same-length : tie.Need-same-length
 same-length c = search needs
 
--- src/site.rt:288:1
 returns-2 : tie.Need-returns-2
-returns-2 c = ?
+returns-2 c =
+    let args = c .before .before .before .before .before .before .before .before .before .before .before .before .before .args in
+    let told = c .before .before .before .before .before .before .before .before .enum-told2 .given .1 in
+    let said = c .before .before .before .before .before .before .before .note-from in
+    record {
+    answer = c .before .before .before .before .before .before .before .before .before .before .answer-for .ensures;
+    site = c .before .before .before .before .before .raise-at .ensures ∙ ap (λ e. raisedSite (args .t1) e (said .result .minute)) (c .before .before .before .before .before .before .entry-of .ensures) ∙ ap (λ n. raisedSite (args .t1) (entryOf n) (n .minute)) (said .ensures) ∙ sym (ap (λ a. siteAfter a (args .t1) (noteFrom (now (args .bytes)))) told);
+    bytes = c .before .before .write-note .ensures ∙ ap (λ n. sets (now (args .receipt)) 0 (noteBytes n)) (c .before .before .before .before .receipt-of .ensures ∙ ap receiptOf (said .ensures)) ∙ sym (ap (λ a. bytesAfter a (now (args .receipt)) (noteFrom (now (args .bytes)))) told);
+    }
 
--- src/site.rt:288:1
 returns-3 : tie.Need-returns-3
-returns-3 c = ?
+returns-3 c =
+    let args = c .before .before .before .before .before .before .before .before .args in
+    let told = c .before .before .before .enum-told3 .given .1 in
+    let said = c .before .before .note-from2 in
+    record {
+    answer = c .before .before .before .before .before .answer-for .ensures;
+    site = c .receipt-at .ensures ∙ ap (λ e. receiptedSite (args .t1) e (said .result .minute)) (c .before .entry-of2 .ensures) ∙ ap (λ n. receiptedSite (args .t1) (entryOf n) (n .minute)) (said .ensures) ∙ sym (ap (λ a. siteAfter a (args .t1) (noteFrom (now (args .bytes)))) told);
+    bytes = sym (ap (λ a. bytesAfter a (now (args .receipt)) (noteFrom (now (args .bytes)))) told);
+    }
 
 pub take-spec : {M : Type 1} → statement M
 take-spec =
