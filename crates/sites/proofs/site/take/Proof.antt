@@ -35,7 +35,7 @@ receipt-of-requires : tie.Need-receipt-of-requires
 receipt-of-requires c κs = search needs
 
 write-note-requires : tie.Need-write-note-requires
-write-note-requires c κs = let t = note-taken _ _ _ _ (sym (c .before .before .before .before .before .before .before .answer-for .ensures) ∙ ap takenAs (c .before .before .before .before .before .enum-told2 .given .1)) in ?
+write-note-requires c κs = let t = note-taken _ _ _ _ (sym (c .before .before .before .before .before .before .before .answer-for .ensures) ∙ ap takenAs (c .before .before .before .before .before .enum-told2 .given .1)) in t .0
 
 enum-told-3 : tie.Need-enum-told-3
 enum-told-3 c = search needs
@@ -56,7 +56,7 @@ returns : tie.Need-returns
 returns c =
     let args = c .before .before .before .before .before .args in
     let told = c .enum-told .given .1 in
-    record { answer = c .before .before .answer-for .ensures; site = sym (ap (λ a. siteAfter a (args .t1) (noteFrom (now (args .bytes)))) told); bytes = sym (ap (λ a. bytesAfter a (now (args .receipt)) (noteFrom (now (args .bytes)))) told) }
+    record { answer = c .before .before .answer-for .ensures; site = sym (ap (λ a. siteAfter a (args .site) (noteFrom (now (args .bytes)))) told); bytes = sym (ap (λ a. bytesAfter a (now (args .receipt)) (noteFrom (now (args .bytes)))) told) }
 
 same-length : tie.Need-same-length
 same-length c = search needs
@@ -68,7 +68,7 @@ returns-2 c =
     let said = c .before .before .before .before .before .before .before .note-from in
     record {
     answer = c .before .before .before .before .before .before .before .before .before .before .answer-for .ensures;
-    site = c .before .before .before .before .before .raise-at .ensures ∙ ap (λ e. raisedSite (args .t1) e (said .result .minute)) (c .before .before .before .before .before .before .entry-of .ensures) ∙ ap (λ n. raisedSite (args .t1) (entryOf n) (n .minute)) (said .ensures) ∙ sym (ap (λ a. siteAfter a (args .t1) (noteFrom (now (args .bytes)))) told);
+    site = c .before .before .before .before .before .raise-at .ensures ∙ ap (λ e. raisedSite (args .site) e (said .result .minute)) (c .before .before .before .before .before .before .entry-of .ensures) ∙ ap (λ n. raisedSite (args .site) (entryOf n) (n .minute)) (said .ensures) ∙ sym (ap (λ a. siteAfter a (args .site) (noteFrom (now (args .bytes)))) told);
     bytes = c .before .before .write-note .ensures ∙ ap (λ n. sets (now (args .receipt)) 0 (noteBytes n)) (c .before .before .before .before .receipt-of .ensures ∙ ap receiptOf (said .ensures)) ∙ sym (ap (λ a. bytesAfter a (now (args .receipt)) (noteFrom (now (args .bytes)))) told);
     }
 
@@ -79,7 +79,7 @@ returns-3 c =
     let said = c .before .before .note-from2 in
     record {
     answer = c .before .before .before .before .before .answer-for .ensures;
-    site = c .receipt-at .ensures ∙ ap (λ e. receiptedSite (args .t1) e (said .result .minute)) (c .before .entry-of2 .ensures) ∙ ap (λ n. receiptedSite (args .t1) (entryOf n) (n .minute)) (said .ensures) ∙ sym (ap (λ a. siteAfter a (args .t1) (noteFrom (now (args .bytes)))) told);
+    site = c .receipt-at .ensures ∙ ap (λ e. receiptedSite (args .site) e (said .result .minute)) (c .before .entry-of2 .ensures) ∙ ap (λ n. receiptedSite (args .site) (entryOf n) (n .minute)) (said .ensures) ∙ sym (ap (λ a. siteAfter a (args .site) (noteFrom (now (args .bytes)))) told);
     bytes = sym (ap (λ a. bytesAfter a (now (args .receipt)) (noteFrom (now (args .bytes)))) told);
     }
 
