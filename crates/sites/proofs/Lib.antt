@@ -1,4 +1,6 @@
--- What follows from what the functions promise of a site.
+-- The laws of the sites, beside the proofs of their functions.
+pub mod SiteLaws  -- laws of the sites' functions
+pub mod Unique  -- two results that meet a contract are the same
 pub mod NoteLaws  -- a note's bytes say the note
 pub mod Ledgers  -- what the functions make of a site is what the note rules make of its tables
 pub mod Sending  -- the notes that a site writes

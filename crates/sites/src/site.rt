@@ -386,7 +386,7 @@ pub fn rests(site: Site) -> bool
     if !site.idle {
         return false;
     }
-    next_due(site, 0) == Table::ENTRIES
+    Table::ENTRIES <= next_due(site, 0)
 }
 
 // What a site shows.

@@ -1,0 +1,226 @@
+-- Laws of notes and of sites that the proofs of the functions cite.
+use mathlib.Core.Path.{_≡_, refl, sym, ap, _∙_}
+use mathlib.Core.Bool.{Bool, true, false, cond, not, _&&_, _||_}
+use mathlib.Core.Logic.{_⊎_, inl, inr}
+use mathlib.Core.List.{List, [], _∷_, _++_}
+use Prim.Native.Nat.{ℕ, suc, _+_, _<_, _≤_}
+use native.Mathlib.Omega.{arith}
+use native.Mathlib.Numerals.{add-one}
+use borrow.Author.Tests.{ltb-true, ltb-false, leb-true, leb-false, eqb-true, lt-ltb, le-ltb, le-leb, lt-leb, eq-eqb, ne-eqb, not-false}
+use lib.Dec.{leb, ltb, eqb}
+use lib.ListN.{length, getD, take, drop, set, replicate, length-set, length-replicate}
+use lib.Seq.{length-take-le, take-all, take-suc, drop-cons, set-at, append-snoc}
+use Rattle.wac.specs.Limits.{keys, delegate, access, endPlace, entries, withoutEnd, largestFile}
+use Rattle.wac.specs.Answers.{gives, refuses, _if_, firstOf}
+use Rattle.wac.specs.Ranges.{allBelow}
+use Rattle.wac.proofs.Cases.{first-none, first-holds, first-fails, first-passed}
+use Rattle.wac.proofs.Tests.{and-true, false-and, and-both, and-false, allBelow-true, allBelow-false}
+use Rattle.rewriting.specs.Weighing.{minutes}
+use Rattle.rewriting.specs.Entries.{Mark}
+use Rattle.decision.specs.Table.{isEntry, number, entryNumber, tableOf}
+use Rattle.wac.proofs.FileLaws.{file-kept}
+use Rattle.decision.specs.Engine.{Accepted}
+use Rattle.decision.specs.Question.{Settles, Settles.refused, Settles.settled}
+use Rattle.decision.specs.declared.request.Request.{Request}
+use Rattle.decision.specs.declared.lens.Lens.the-variants.{Minutes}
+use Rattle.decision.specs.declared.question.Refused.{Refused}
+use Rattle.decision.specs.declared.question.Settling.{Settling}
+use Rattle.decision.specs.declared.question.Settling.the-variants as settlings
+use Rattle.decision.proofs.Choices.{when-true, when-false}
+use Rattle.decision.proofs.TableLaws.{number-low}
+use Rattle.decision.proofs.PassingLaws.{asker-entry, started}
+use Rattle.sites.specs.Notes.{noteLength, raiseKind, receiptKind, noteFrom, formed, noteOk}
+use Rattle.sites.specs.Site.{copied, startOf, openedSite, minuteAt, receiptedAt, entryOf, noteCases, NextDue, restful}
+use Rattle.sites.specs.declared.note.Note.{Note}
+use Rattle.sites.specs.declared.site.Site.{Site}
+
+-- what the number of an entry says, 2,592 standing for none
+module _ (k s a : ℕ) where
+  -- it is below 2,592 exactly where there is such an entry
+  pub entry-test : ltb (entryNumber k s a) entries ≡ isEntry k s a
+  entry-test = turn (isEntry k s a) refl
+    where
+      turn : (t : Bool) → isEntry k s a ≡ t → ltb (cond t (number k s a) entries) entries ≡ t
+      turn true e = lt-ltb _ _ (number-low k s a e)
+      turn false e = refl
+
+  -- the table that a list holds is read at the number, and is none where there is no such entry
+  pub table-there : (l : List ℕ) → entryNumber k s a < entries → tableOf 0 l k s a ≡ getD l (entryNumber k s a) 0
+  unfolding tableOf
+  table-there l h = let t = sym entry-test ∙ lt-ltb _ _ h in rw t
+
+  pub table-none : (l : List ℕ) → entries ≤ entryNumber k s a → tableOf 0 l k s a ≡ 0
+  unfolding tableOf
+  table-none l h = let t = sym entry-test ∙ le-ltb _ _ h in rw t
+
+-- a note in order, by the tests that it passes
+module _ (n : Note) where
+  pub no-kind : (n .kind ≡ raiseKind → ⊥) → (n .kind ≡ receiptKind → ⊥) → formed n ≡ false
+  unfolding formed
+  no-kind h g = rw (ne-eqb _ _ h, ne-eqb _ _ g)
+
+  module _ (kind : (n .kind ≡ raiseKind) ⊎ (n .kind ≡ receiptKind)) where
+    kinded : (eqb (n .kind) raiseKind || eqb (n .kind) receiptKind) ≡ true
+    kinded = turn kind
+      where
+        turn : (n .kind ≡ raiseKind) ⊎ (n .kind ≡ receiptKind) → (eqb (n .kind) raiseKind || eqb (n .kind) receiptKind) ≡ true
+        turn (inl e) = rw e
+        turn (inr e) = rw e
+
+    pub no-minute : n .minute ≡ 0 → formed n ≡ false
+    unfolding formed
+    no-minute e = and-true _ _ kinded ∙ false-and _ _ (ap not (eq-eqb _ _ e))
+
+    module _ (some : n .minute ≡ 0 → ⊥) where
+      pub high-symbol : access ≤ n .symbol → formed n ≡ false
+      unfolding formed
+      high-symbol h = and-true _ _ kinded ∙ and-true _ _ (ap not (ne-eqb _ _ some)) ∙ false-and _ _ (le-ltb _ _ h)
+
+      pub formed-entry : n .symbol < access → formed n ≡ isEntry (n .key) (n .symbol) (n .arrival)
+      unfolding formed
+      formed-entry h = and-true _ _ kinded ∙ and-true _ _ (ap not (ne-eqb _ _ some)) ∙ and-true _ _ (lt-ltb _ _ h)
+
+  -- a note in order that is no raise is a receipt, and names an entry
+  pub other-kind : formed n ≡ true → (n .kind ≡ raiseKind → ⊥) → n .kind ≡ receiptKind
+  unfolding formed
+  other-kind ok h = let both = and-both (eqb (n .kind) raiseKind || eqb (n .kind) receiptKind) _ ok in eqb-true (n .kind) receiptKind (rw (ne-eqb (n .kind) raiseKind h) at (both .0))
+
+  pub entry-low : formed n ≡ true → entryOf n < entries
+  unfolding formed
+  entry-low ok =
+      let kind = and-both (eqb (n .kind) raiseKind || eqb (n .kind) receiptKind) _ ok in
+      let minute = and-both (not (eqb (n .minute) 0)) _ (kind .1) in
+      let symbol = and-both (ltb (n .symbol) access) _ (minute .1) in
+      ltb-true _ _ (entry-test _ _ _ ∙ symbol .1)
+
+-- bytes that say a note in order
+pub note-whole : (b : List ℕ) → noteOk b ≡ true → (length b ≡ noteLength) × (formed (noteFrom b) ≡ true)
+unfolding noteOk
+note-whole b ok = let both = and-both _ _ ok in (eqb-true _ _ (both .0), both .1)
+
+-- what becomes of a note, case by case
+module _ (x : Site) (b : List ℕ) (room kind : ℕ) where
+  pub few-bytes : room < noteLength → firstOf (noteCases x b room) kind ≡ refuses 23 []
+  unfolding noteCases
+  few-bytes h = first-holds _ _ _ (lt-ltb _ _ h)
+
+  module _ (h : noteLength ≤ room) where
+    pub wrong-length : (length b ≡ noteLength → ⊥) → firstOf (noteCases x b room) kind ≡ refuses 27 []
+    unfolding noteCases noteOk
+    wrong-length n = first-fails _ _ _ (le-ltb _ _ h) ∙ first-holds _ _ _ (ap not (false-and _ _ (ne-eqb _ _ n)))
+
+    module _ (long : length b ≡ noteLength) (said : Note) (says : said ≡ noteFrom b) where
+      pub ill-formed : formed said ≡ false → firstOf (noteCases x b room) kind ≡ refuses 27 []
+      unfolding noteCases noteOk
+      ill-formed e = first-fails _ _ _ (le-ltb _ _ h) ∙ first-holds _ _ _ (ap not (and-true _ _ (eq-eqb _ _ long) ∙ ap formed (sym says) ∙ e))
+
+      module _ (ok : formed said ≡ true) where
+        well-formed : firstOf (noteCases x b room) kind ≡ firstOf ((26 if not (x .live && eqb (said .session) (x .session))) ∷ (28 if eqb (said .kind) receiptKind && ltb (minuteAt x (entryOf said)) (said .minute)) ∷ []) kind
+        unfolding noteCases noteOk
+        well-formed =
+            first-fails _ _ _ (le-ltb _ _ h) ∙ first-fails _ _ _ (ap not (and-true _ _ (eq-eqb _ _ long) ∙ ap formed (sym says) ∙ ok))
+            ∙ ap (λ n. firstOf ((26 if not (x .live && eqb (n .session) (x .session))) ∷ (28 if eqb (n .kind) receiptKind && ltb (minuteAt x (entryOf n)) (n .minute)) ∷ []) kind) (sym says)
+
+        pub not-live : x .live ≡ false → firstOf (noteCases x b room) kind ≡ refuses 26 []
+        not-live e = well-formed ∙ first-holds _ _ _ (ap not (false-and _ _ e))
+
+        module _ (live : x .live ≡ true) where
+          pub other-session : (said .session ≡ x .session → ⊥) → firstOf (noteCases x b room) kind ≡ refuses 26 []
+          other-session n = well-formed ∙ first-holds _ _ _ (ap not (and-true _ _ live ∙ ne-eqb _ _ n))
+
+          module _ (same : said .session ≡ x .session) where
+            this-session : firstOf (noteCases x b room) kind ≡ firstOf ((28 if eqb (said .kind) receiptKind && ltb (minuteAt x (entryOf said)) (said .minute)) ∷ []) kind
+            this-session = well-formed ∙ first-fails _ _ _ (ap not (and-true _ _ live ∙ eq-eqb _ _ same))
+
+            pub taken-raise : said .kind ≡ raiseKind → firstOf (noteCases x b room) kind ≡ gives kind
+            taken-raise e = this-session ∙ first-fails _ _ _ (false-and _ _ (ap (λ n. eqb n receiptKind) e)) ∙ first-none _
+
+            module _ (e : ℕ) (at : e ≡ entryOf said) where
+              pub later-minute : said .kind ≡ receiptKind → minuteAt x e < said .minute → firstOf (noteCases x b room) kind ≡ refuses 28 []
+              later-minute k l = this-session ∙ first-holds _ _ _ (and-true _ _ (eq-eqb _ _ k) ∙ ap (λ i. ltb (minuteAt x i) (said .minute)) (sym at) ∙ lt-ltb _ _ l)
+
+              pub taken-receipt : said .minute ≤ minuteAt x e → firstOf (noteCases x b room) kind ≡ gives kind
+              taken-receipt l =
+                  let low = ap (λ i. ltb (minuteAt x i) (said .minute)) (sym at) ∙ le-ltb _ _ l in
+                  this-session ∙ first-fails _ _ _ (ap (λ t. eqb (said .kind) receiptKind && t) low ∙ and-false (eqb (said .kind) receiptKind)) ∙ first-none _
+
+  -- a note that is taken has room for its receipt, and is in order
+  pub note-taken : {n : ℕ} → firstOf (noteCases x b room) kind ≡ gives n → (noteLength ≤ room) × (length b ≡ noteLength) × (formed (noteFrom b) ≡ true)
+  unfolding noteCases
+  note-taken e =
+      let first = first-passed _ _ _ e in
+      let whole = note-whole b (not-false _ (first-passed _ _ _ (first .1) .0)) in
+      (ltb-false _ _ (first .0), whole .0, whole .1)
+
+-- copying one byte more
+pub copied-more : (i : ℕ) (from to : List ℕ) → i < length from → i < length to → set (take i from ++ drop i to) i (getD from i 0) ≡ take (i + 1) from ++ drop (i + 1) to
+copied-more i from to h k =
+    ap (λ l. set (take i from ++ l) i (getD from i 0)) (drop-cons to i 0 k)
+    ∙ set-at (take i from) (getD to i 0) (drop (suc i) to) (getD from i 0) i (length-take-le i from (omega arith))
+    ∙ sym (append-snoc (take i from) (getD from i 0) (drop (suc i) to))
+    ∙ rw (add-one i, take-suc from i 0 h)
+
+-- the asker's two marks are entries, and a list of 0 that is without end at both is the start
+module _ (asker : ℕ) (h : asker < keys) where
+  pub mark-number : (s : ℕ) → Mark s → entryNumber asker s endPlace ≡ number asker s endPlace
+  mark-number s m = when-true _ _ _ (asker-entry asker s h m)
+
+  pub mark-low : (s : ℕ) → Mark s → entryNumber asker s endPlace < entries
+  mark-low s m = ltb-true _ _ (entry-test _ _ _ ∙ asker-entry asker s h m)
+
+  pub start-set : (l : List ℕ) (n m : ℕ) → l ≡ replicate entries 0 → n ≡ entryNumber asker delegate endPlace → m ≡ entryNumber asker access endPlace →
+      set (set l n withoutEnd) m withoutEnd ≡ startOf asker
+  unfolding minutes
+  start-set l n m none d e =
+      let long : length l ≡ entries = ap length none ∙ length-replicate {A = ℕ} entries 0 in
+      let low : length (set (set l n withoutEnd) m withoutEnd) ≤ entries = simp length-set (omega arith) in
+      sym (take-all entries (set (set l n withoutEnd) m withoutEnd) low)
+      ∙ started Minutes asker h l (omega arith) (take-all entries l (omega arith) ∙ none) n m withoutEnd (d ∙ mark-number delegate (inl refl)) (e ∙ mark-number access (inr refl)) refl .0
+
+-- a site of the copied bytes and the start is the opened site
+pub opened-with : (s : List ℕ) (q : Request) (session : ℕ) (file minutes : List ℕ) → file ≡ copied s (replicate largestFile 0) → minutes ≡ startOf (q .asker) →
+    record { file = file; used = length s; request = q; session = session; live = true; minutes = minutes; receipted = minutes; idle = false } ≡ openedSite s q session
+unfolding openedSite
+opened-with s q session file minutes e f = rw (e, f)
+
+-- an accepted file is no longer than the largest
+pub file-low : (s : List ℕ) → Accepted s → length s ≤ largestFile
+file-low s e =
+    let framed = file-kept s e .0 in
+    let few = framed .few in
+    let sized = framed .sized in
+    omega arith
+
+-- a table that is refused stays as it was
+pub settle-stays : {s : List ℕ} {q : Request} {r : Settling} {t t′ : List ℕ} (why : Refused) → Settles s q r t t′ → r ≡ settlings.Refused why → Settles s q (settlings.Refused why) t t
+settle-stays why (refused w case e same) f = refused w case (sym f ∙ e) refl
+settle-stays why (settled case N held e) f = absurd (let z : _≡_ {A = ℕ} 0 1 = cc in omega arith)
+
+-- no entry is due
+module _ (x : Site) where
+  pub none-due : (from e : ℕ) → entries ≤ e → NextDue x from e → NextDue x from entries
+  none-due from e h next = record {
+    before = λ d low below. next .before d low (omega arith);
+    due = λ l. absurd (omega arith);
+  }
+
+  -- a site that has to work does not rest, and one that has worked rests exactly if none is due from 0 on
+  pub not-idle : x .idle ≡ false → restful x ≡ false
+  unfolding restful
+  not-idle e = false-and _ _ e
+
+  pub idle-rest : x .idle ≡ true → (e : ℕ) → NextDue x 0 e → leb entries e ≡ restful x
+  unfolding restful
+  idle-rest idle e next = turn (leb entries e) refl ∙ sym (and-true _ _ idle)
+    where
+      none : (d : ℕ) (t : Bool) → leb (minuteAt x d) (receiptedAt x d) ≡ t → (receiptedAt x d < minuteAt x d → ⊥) → t ≡ true
+      none d true e h = refl
+      none d false e h = absurd (h (leb-false _ _ e))
+
+      turn : (t : Bool) → leb entries e ≡ t → t ≡ allBelow entries (λ d. leb (minuteAt x d) (receiptedAt x d))
+      turn true f =
+          let high : entries ≤ e = leb-true _ _ f in
+          sym (allBelow-true entries _ (λ d l. none d _ refl (next .before d (omega arith) (omega arith) l)))
+      turn false f =
+          let low = leb-false _ _ f in
+          sym (allBelow-false entries _ e low (lt-leb _ _ (next .due low .1)))

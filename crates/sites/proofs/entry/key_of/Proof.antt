@@ -1,0 +1,24 @@
+-- `key_of` meets its contract: identifiers first, then the marks.
+use native.Mathlib.Omega.{arith}
+use borrow.Author.Tests.{lt-ltb, le-ltb}
+use Rattle.decision.specs.Table.{keyOf}
+use borrow.Author.Needs.{needs}
+use Rattle.sites.proofs.entry.key_of.Statement.{statement}
+use Rattle.sites.proofs.entry.key_of.Tie as tie
+
+cast-result : tie.Need-cast-result
+cast-result c = search needs
+
+cast-result-2 : tie.Need-cast-result-2
+cast-result-2 c = search needs
+
+returns : tie.Need-returns
+unfolding keyOf
+returns c = rw (lt-ltb _ _ (c .if1 .taken)) (omega arith)
+
+returns-2 : tie.Need-returns-2
+unfolding keyOf
+returns-2 c = rw (le-ltb _ _ (c .if1 .left)) (omega arith)
+
+pub key-of-spec : {M : Type 1} → statement M
+key-of-spec = tie.close (tie.spec cast-result cast-result-2 returns returns-2)
