@@ -4,10 +4,11 @@
 //! engine that leaves out keys that are not reached.
 
 use second::decision::Request;
+use second::dense;
 use second::plain::Work;
 use second::proved_decision::{ask, LentPlaces, Told};
 use second::random::Random;
-use second::wac::{file_of, Certificate, ACCESS_ONLY, MAY_DELEGATE, MOST};
+use second::wac::{file_of, Certificate, MAY_DELEGATE, MOST};
 use std::hint::black_box;
 use std::process::ExitCode;
 use std::time::{Duration, Instant};
@@ -111,32 +112,11 @@ fn time(cases: &[Case], engine: fn(&Case, &mut Work) -> u32) -> f64 {
 }
 
 fn few_keys(random: &mut Random) -> Vec<Certificate> {
-    dense(5, 4, random)
+    dense::certificates(MOST, (5, 4), random)
 }
 
 fn many_keys(random: &mut Random) -> Vec<Certificate> {
-    dense(16, 10, random)
-}
-
-/// Names of any length, every fourth certificate an authorization.
-fn dense(keys: usize, identifiers: usize, random: &mut Random) -> Vec<Certificate> {
-    let mut certificates = Vec::new();
-    for place in 0..MOST {
-        let issuer = random.below(keys) as u8;
-        let subject = random.below(keys) as u8;
-        let length = random.one_of(&[0, 0, 1, 1, 2, 3]);
-        let some: Vec<u8> = (0..=length)
-            .map(|_| random.below(identifiers) as u8)
-            .collect();
-        let mark = random.one_of(&[MAY_DELEGATE, ACCESS_ONLY]);
-        let end = 100 + random.below(1_000) as u32;
-        let made = match place % 4 {
-            0 => Certificate::authorization(issuer, subject, &some[..length], mark),
-            _ => Certificate::name(issuer, some[length], subject, &some[..length]),
-        };
-        certificates.push(made.until(end));
-    }
-    certificates
+    dense::certificates(MOST, (16, 10), random)
 }
 
 /// Each name leads to the next, so that every pass finds one entry.

@@ -1,0 +1,5 @@
+use super::Schedule;
+
+pub fn schedules() -> Vec<Schedule> {
+    Vec::new()
+}
