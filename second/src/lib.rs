@@ -7,6 +7,7 @@ pub mod decision;
 pub mod dense;
 #[cfg(feature = "decision")]
 pub mod plain;
+pub mod program;
 pub mod proved;
 #[cfg(feature = "decision")]
 pub mod proved_decision;
