@@ -17,11 +17,11 @@ const DENSE: [(usize, usize); 3] = [(4, 3), (5, 4), (16, 10)];
 /// give together.
 const TRIES: usize = 8;
 
-/// Halves that are not refused: once in 15 two dense files.
+/// Halves that are not refused: once in 8 two dense files.
 pub fn opening(random: &mut Random) -> Opening {
     let any = random.number() as u32;
     let session = random.one_of(&[0, 1, 7, u32::MAX, any, any]);
-    let (request, files) = match random.once_in(15) {
+    let (request, files) = match random.once_in(8) {
         true => dense_files(random),
         false => chosen_halves(random),
     };
@@ -71,7 +71,7 @@ fn minute(rules: &[Rule], request: Request) -> u32 {
 
 fn dense_files(random: &mut Random) -> (Request, [Vec<u8>; 2]) {
     let sort = random.one_of(&DENSE);
-    let count = random.one_of(&[20, 40, 64, 65, MOST]);
+    let count = random.one_of(&[12, 20, 20, 30, 40, 65, MOST]);
     let request = Request {
         owner: 0,
         asker: random.below(sort.0) as u8,

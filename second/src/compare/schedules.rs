@@ -20,7 +20,7 @@ use crate::wac::{self, HEAD};
 
 /// Schedules made from each seed, and openings that are mostly refused.
 const SCHEDULES_PER_SEED: u64 = 800;
-const REFUSED_PER_SEED: u64 = 1_200;
+const REFUSED_PER_SEED: u64 = 1_400;
 
 /// What the sites say to an act, by the last words of its line.
 const SAID: [Outcome; 7] = [

@@ -9,7 +9,8 @@ use crate::decision::entries::ENTRIES;
 use crate::random::Random;
 use crate::sites::acts::{Act, Side};
 use crate::sites::exchange::{Exchange, Said};
-use crate::sites::notes::Bytes;
+use crate::sites::notes::{Bytes, Kind, Note};
+use crate::sites::number;
 use crate::sites::opening::Opening;
 
 /// Acts before the full exchanges at the end.
@@ -24,9 +25,10 @@ pub const REPEATED: Outcome = (1, "a note is brought again");
 pub const LATELY: Outcome = (2, "a note is brought late");
 pub const OVERTAKEN: Outcome = (3, "a note is overtaken");
 pub const REPLAYED: Outcome = (4, "a note is brought at common rest");
+pub const OUTDATED: Outcome = (5, "a receipt for an older minute");
 
 /// What a line does to notes.
-pub const LINE: [Outcome; 5] = [LOST, REPEATED, LATELY, OVERTAKEN, REPLAYED];
+pub const LINE: [Outcome; 6] = [LOST, REPEATED, LATELY, OVERTAKEN, REPLAYED, OUTDATED];
 
 /// A schedule as it was made.
 pub struct Schedule {
@@ -53,12 +55,20 @@ impl Schedule {
 #[derive(Clone, Copy)]
 enum Bringing {
     InTurn,
+    /// Receipts wait until every raise was brought.
+    RaisesFirst,
     Newest,
     Any,
     Again,
 }
 
-const BRINGINGS: [&[Bringing]; 5] = [
+const BRINGINGS: [&[Bringing]; 7] = [
+    &[Bringing::RaisesFirst],
+    &[
+        Bringing::RaisesFirst,
+        Bringing::RaisesFirst,
+        Bringing::InTurn,
+    ],
     &[Bringing::InTurn],
     &[Bringing::InTurn, Bringing::InTurn, Bringing::Any],
     &[Bringing::Newest, Bringing::Any],
@@ -68,6 +78,7 @@ const BRINGINGS: [&[Bringing]; 5] = [
 
 /// A note on the line: when it was written, and how often it was brought.
 struct Letter {
+    raises: bool,
     written: usize,
     brought: usize,
 }
@@ -76,7 +87,7 @@ struct Maker<'a> {
     random: &'a mut Random,
     schedule: Schedule,
     letters: [Vec<Letter>; 2],
-    /// The entry number after each side's last note.
+    /// The entry number after each side's last note, 0 if there was none.
     next: [u16; 2],
     bringings: &'static [Bringing],
     /// One act in so many is a full exchange.
@@ -93,12 +104,15 @@ pub fn schedule(random: &mut Random) -> Result<Schedule, String> {
     let length = random.one_of(&[0, 10, 40, 40, 100, 100, 100, ACTS]);
     let length = random.within(0, length);
     let mut maker = Maker::new(opening, random);
-    if maker.random.once_in(5) {
+    if maker.random.once_in(8) {
         maker.full_exchanges()?;
     }
-    for _ in 0..length {
+    while maker.schedule.acts.len() < length {
         let act = maker.any_act();
         maker.perform(act);
+        if maker.random.once_in(50) {
+            maker.hold_receipts_back();
+        }
     }
     maker.schedule.exchanges = maker.full_exchanges()?;
     Ok(maker.finished())
@@ -119,7 +133,7 @@ impl Maker<'_> {
             letters: [Vec::new(), Vec::new()],
             next: [0, 0],
             bringings: random.one_of(&BRINGINGS),
-            full: random.one_of(&[10, 40, 100, 1_000_000]),
+            full: random.one_of(&[20, 100, 1_000_000, 1_000_000]),
             outside: random.one_of(&[5, 10, 30, 1_000_000]),
             forges: random.once_in(8),
             random,
@@ -140,6 +154,36 @@ impl Maker<'_> {
         }
         self.perform(Act::Full(first));
         Ok(needed)
+    }
+
+    /// One site's receipts arrive only when the other has worked again with
+    /// what it was sent, so that some are for minutes that have passed.
+    fn hold_receipts_back(&mut self) {
+        let side = self.random.one_of(&Side::BOTH);
+        for sender in [side, side.other()] {
+            self.perform(Act::Work(sender));
+            self.send_some(sender);
+        }
+        self.perform(Act::Work(side));
+        self.bring_all(side.other(), false);
+    }
+
+    /// The site writes some notes, and all its raises are brought.
+    fn send_some(&mut self, side: Side) {
+        for _ in 0..self.random.within(1, 8) {
+            self.perform(Act::Write(side, self.next[side as usize]));
+        }
+        self.bring_all(side, true);
+    }
+
+    /// The site's raises, or its receipts, that were not brought so far.
+    fn bring_all(&mut self, side: Side, raises: bool) {
+        for place in 0..self.letters[side as usize].len() {
+            let letter = &self.letters[side as usize][place];
+            if letter.brought == 0 && letter.raises == raises {
+                self.perform(Act::Bring(side, place as u16));
+            }
+        }
     }
 
     fn any_act(&mut self) -> Act {
@@ -172,8 +216,13 @@ impl Maker<'_> {
     fn place(&mut self, side: Side) -> u16 {
         let letters = &self.letters[side as usize];
         let kept = letters.len().max(1);
+        let first = |raises: bool| {
+            let waits = |letter: &Letter| letter.brought == 0 && (letter.raises || !raises);
+            letters.iter().position(waits)
+        };
         let place = match self.random.one_of(self.bringings) {
-            Bringing::InTurn => letters.iter().position(|letter| letter.brought == 0),
+            Bringing::InTurn => first(false),
+            Bringing::RaisesFirst => first(true).or(first(false)),
             Bringing::Again => letters.iter().rposition(|letter| letter.brought > 0),
             Bringing::Newest => letters.len().checked_sub(1),
             Bringing::Any => None,
@@ -202,17 +251,23 @@ impl Maker<'_> {
     fn perform(&mut self, act: Act) {
         self.look_at(act);
         let Schedule { exchange, acts, .. } = &mut self.schedule;
-        if let (Act::Write(side, _), Said::Note(entry)) = (act, exchange.act(act)) {
-            self.next[side as usize] = entry as u16 + 1;
+        let said = exchange.act(act);
+        if let Act::Write(side, _) = act {
+            self.next[side as usize] = match said {
+                Said::Note(entry) => entry as u16 + 1,
+                _ => 0,
+            };
         }
         acts.push(act);
-        let at_once = usize::from(matches!(act, Act::Full(_)));
+        let brought = usize::from(matches!(act, Act::Full(_)));
         for side in Side::BOTH {
-            let kept = exchange.written(side).len();
-            self.letters[side as usize].resize_with(kept, || Letter {
+            let letters = &mut self.letters[side as usize];
+            let new = exchange.written(side).iter().skip(letters.len());
+            letters.extend(new.map(|note| Letter {
+                raises: note[4] == 1,
                 written: acts.len(),
-                brought: at_once,
-            });
+                brought,
+            }));
         }
     }
 
@@ -248,6 +303,9 @@ impl Maker<'_> {
         if self.schedule.exchange.both_rest() {
             happened.push(REPLAYED);
         }
+        if is_outdated(&self.schedule.exchange, side, place) {
+            happened.push(OUTDATED);
+        }
     }
 
     fn finished(mut self) -> Schedule {
@@ -256,6 +314,15 @@ impl Maker<'_> {
         self.schedule.happened.extend(vec![LOST; lost]);
         self.schedule
     }
+}
+
+/// Whether the note is a receipt for an entry that has risen since, and that is
+/// still to be sent.
+fn is_outdated(exchange: &Exchange, from: Side, place: usize) -> bool {
+    let note = Note::read(&exchange.written(from)[place]).expect("a site writes lawful notes");
+    let next = exchange.site(from.other()).next(number(note.entry));
+    let risen = next.is_some_and(|next| next.entry == note.entry && next.minute > note.minute);
+    risen && note.kind == Kind::Receipt
 }
 
 /// Whether the site would take a note that the other did not write.
