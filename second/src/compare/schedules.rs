@@ -74,6 +74,8 @@ const JOINT: [Outcome; 4] = [
     (2, "granted by both files only"),
     (3, "later by both files"),
 ];
+/// Which site begins the full exchanges at the end.
+const ORDERS: [Outcome; 2] = [(0, "A first"), (1, "B first")];
 /// Full exchanges until both rest, by the least of each class.
 const NEEDED: [Outcome; 6] = [
     (0, "full exchanges"),
@@ -207,6 +209,9 @@ impl Schedules {
             };
             self.tally.note(function, happened);
         }
+        if let Some(Act::Full(first)) = schedule.acts.last() {
+            self.tally.note("orders", ORDERS[*first as usize]);
+        }
         let needed = class(&NEEDED, schedule.exchanges as u32);
         self.tally.note("exchanges", needed);
         let opening = &schedule.opening;
@@ -231,6 +236,7 @@ impl Schedules {
         self.tally.enough("halves", &HALVES)?;
         self.tally.enough("counts", &COUNTS)?;
         self.tally.enough("joint", &JOINT)?;
+        self.tally.enough("orders", &ORDERS)?;
         self.tally.enough("exchanges", &NEEDED)
     }
 }

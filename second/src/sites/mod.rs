@@ -7,7 +7,7 @@ pub mod notes;
 pub mod opening;
 pub mod passes;
 
-use crate::decision::entries::{self, ACCESS_ONLY, END, ENTRIES, MAY_DELEGATE};
+use crate::decision::entries::{self, ACCESS_ONLY, END, MAY_DELEGATE};
 use crate::decision::rules::Rule;
 use crate::decision::{self, Places, Request};
 use notes::{Kind, Note};
@@ -128,7 +128,6 @@ impl Site {
             entry,
             minute: self.minute(entry),
         })
-        .filter(|_| from < ENTRIES)
     }
 
     /// The entries whose minute is above their receipted minute.
