@@ -192,7 +192,7 @@ impl Maker<'_> {
             return Act::Full(side);
         }
         if self.random.once_in(self.outside) {
-            return Act::Hand(side, self.from_outside(side));
+            return Act::Hand(side, self.outside_note(side));
         }
         let nothing_yet = self.letters[side as usize].is_empty();
         match self.random.below(10) {
@@ -237,7 +237,7 @@ impl Maker<'_> {
 
     /// A note from outside; if it were taken for true and must not be, it is
     /// given another session.
-    fn from_outside(&mut self, to: Side) -> Bytes {
+    fn outside_note(&mut self, to: Side) -> Bytes {
         let exchange = &self.schedule.exchange;
         let (sort, note) = outside::note(exchange, to, self.forges, self.random);
         let (sort, note) = match self.forges || !is_forged(exchange, to, &note) {

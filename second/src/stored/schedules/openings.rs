@@ -11,6 +11,9 @@ use crate::wac::{file_of, Certificate, HEAD, RECORD};
 /// What is done to a file, and the number by which it is then refused.
 type Ground = (u32, fn(&mut Vec<u8>));
 
+/// What is done to a request, and the schedule's name.
+type Bent = (&'static str, fn(&mut Request));
+
 const GROUNDS: [Ground; 6] = [
     (10, |file| file.truncate(HEAD - 1)),
     (11, |file| file[2] = b'D'),
@@ -59,7 +62,7 @@ fn cut_off() -> Vec<Schedule> {
 }
 
 fn requests() -> Vec<Schedule> {
-    let bent: [(&str, fn(&mut Request)); 8] = [
+    let bent: [Bent; 8] = [
         ("opening-20-owner", |request| request.owner = 16),
         ("opening-20-asker", |request| request.asker = 16),
         ("opening-20-both", |request| {
@@ -75,7 +78,7 @@ fn requests() -> Vec<Schedule> {
             (request.rights, request.at) = (16, 0)
         }),
     ];
-    let schedule = |(name, bend): (&str, fn(&mut Request))| {
+    let schedule = |(name, bend): Bent| {
         let mut opening = halves();
         bend(&mut opening.request);
         refused(name, &opening)
