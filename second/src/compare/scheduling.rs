@@ -16,7 +16,7 @@ use crate::sites::opening::Opening;
 /// Acts before the full exchanges at the end.
 const ACTS: usize = 400;
 /// The full exchanges from any state after which both rest.
-const EXCHANGES: usize = 2_576;
+pub const EXCHANGES: usize = 2_576;
 /// A note that is brought so many acts after it was written is late.
 const LATE: usize = 40;
 

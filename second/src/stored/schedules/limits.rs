@@ -2,6 +2,7 @@
 //! files, and a name handed on between the sites.
 
 use super::{after, between, halves, Schedule, REQUEST};
+use crate::compare::scheduling::EXCHANGES;
 use crate::decision::Request;
 use crate::dense;
 use crate::random::Random;
@@ -110,6 +111,7 @@ fn until_rest(name: &str, opening: &Opening, first: Side) -> Schedule {
     while !exchange.both_rest() {
         exchange.act(Full(first));
         acts.push(Full(first));
+        assert!(acts.len() <= EXCHANGES + 1, "{name} does not come to rest");
     }
     Schedule::new(name, opening, &acts)
 }

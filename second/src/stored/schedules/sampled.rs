@@ -7,6 +7,8 @@ use crate::random::Random;
 const SEED: u64 = 40;
 /// So many are stored of each share.
 const EACH: usize = 6;
+/// So many are made, which is enough to fill every share.
+const TRIES: usize = 200;
 /// The longest input of a random schedule that is stored.
 const LONGEST: usize = 1_500;
 
@@ -17,7 +19,7 @@ pub fn schedules() -> Vec<Schedule> {
     let mut random = Random::new(SEED);
     let mut left = [EACH; SHARES.len()];
     let mut schedules = Vec::new();
-    while left.iter().any(|&wanted| wanted > 0) {
+    for _ in 0..TRIES {
         let made = schedule(&mut random).expect("a random schedule comes to rest");
         let input = made.input();
         let share = SHARES
@@ -32,5 +34,6 @@ pub fn schedules() -> Vec<Schedule> {
             schedules.push(Schedule { name, input });
         }
     }
+    assert_eq!(left, [0; SHARES.len()], "every share is filled");
     schedules
 }
