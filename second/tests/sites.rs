@@ -59,6 +59,28 @@ fn a_note_is_its_twelve_bytes() {
 }
 
 #[test]
+fn each_field_has_its_limits() {
+    let read = |place: usize, fields: &[u8]| {
+        let mut bytes = [0, 0, 0, 7, 1, 15, 9, 15, 0, 0, 0, 1];
+        bytes[place..place + fields.len()].copy_from_slice(fields);
+        Note::read(&bytes).is_some()
+    };
+    let lawful: [(usize, &[u8]); 4] = [(4, &[1]), (4, &[2]), (6, &[10, 16]), (11, &[255])];
+    assert!(lawful.iter().all(|(place, fields)| read(*place, fields)));
+    let outside: [(usize, &[u8]); 8] = [
+        (4, &[0]),
+        (4, &[3]),
+        (5, &[16]),
+        (6, &[11, 16]),
+        (6, &[10, 15]),
+        (6, &[10, 17]),
+        (7, &[16]),
+        (11, &[0]),
+    ];
+    assert!(!outside.iter().any(|(place, fields)| read(*place, fields)));
+}
+
+#[test]
 fn a_raise_is_answered_and_not_sent_back() {
     let mut site = site();
     site.work();
