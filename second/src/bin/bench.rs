@@ -1,13 +1,20 @@
 //! Times one question about full files of 128 certificates: the proved engine
 //! through the archive against a plain Rust engine of the same algorithm, in
 //! one run. Prints microseconds a question and the ratio; beside it the plain
-//! engine that leaves out keys that are not reached.
+//! engine that leaves out keys that are not reached. Then times full exchanges
+//! of two sites that share such a file, by the program `exchange`: the first,
+//! in which most notes go, and one in which none go.
 
 use second::decision::Request;
+use second::dense;
 use second::plain::Work;
+use second::program;
 use second::proved_decision::{ask, LentPlaces, Told};
 use second::random::Random;
-use second::wac::{file_of, Certificate, ACCESS_ONLY, MAY_DELEGATE, MOST};
+use second::sites::acts::{Act, Side};
+use second::sites::exchange::Exchange;
+use second::sites::opening::Opening;
+use second::wac::{file_of, Certificate, MAY_DELEGATE, MOST};
 use std::hint::black_box;
 use std::process::ExitCode;
 use std::time::{Duration, Instant};
@@ -16,6 +23,18 @@ use std::time::{Duration, Instant};
 const TIME: Duration = Duration::from_millis(1_500);
 /// Files of each sort.
 const FILES: usize = 8;
+/// Each input of the program is run so often, and the least time counts.
+const RUNS: usize = 7;
+/// Exchanges without notes that are timed together.
+const QUIET: usize = 200;
+
+/// What is asked of each file.
+const REQUEST: Request = Request {
+    owner: 0,
+    asker: 4,
+    rights: 2,
+    at: 100,
+};
 
 struct Case {
     file: Vec<u8>,
@@ -32,14 +51,22 @@ const SORTS: [Sort; 3] = [
 ];
 
 fn main() -> ExitCode {
+    match questions().and_then(|()| exchanges()) {
+        Ok(()) => ExitCode::SUCCESS,
+        Err(told) => {
+            eprintln!("bench: {told}");
+            ExitCode::FAILURE
+        }
+    }
+}
+
+fn questions() -> Result<(), String> {
     let mut random = Random::new(1);
     println!("microseconds a question, 128 certificates");
     for (name, make) in SORTS {
         let cases: Vec<Case> = (0..FILES).map(|_| case(make(&mut random))).collect();
-        if let Err(told) = cases.iter().try_for_each(agree) {
-            eprintln!("bench: {name}: {told}");
-            return ExitCode::FAILURE;
-        }
+        let agreed = cases.iter().try_for_each(agree);
+        agreed.map_err(|told| format!("{name}: {told}"))?;
         let proved = time(&cases, |case, work| proved(case, work).minute);
         let skipping = time(&cases, |case, work| plain(case, work, true).minute);
         let plain = time(&cases, |case, work| plain(case, work, false).minute);
@@ -49,19 +76,14 @@ fn main() -> ExitCode {
             proved / skipping
         );
     }
-    ExitCode::SUCCESS
+    Ok(())
 }
 
 fn case(certificates: Vec<Certificate>) -> Case {
     assert!(certificates.len() == MOST, "a full file");
     Case {
         file: file_of(&certificates),
-        request: Request {
-            owner: 0,
-            asker: 4,
-            rights: 2,
-            at: 100,
-        },
+        request: REQUEST,
     }
 }
 
@@ -110,33 +132,100 @@ fn time(cases: &[Case], engine: fn(&Case, &mut Work) -> u32) -> f64 {
     began.elapsed().as_secs_f64() * 1e6 / f64::from(asked)
 }
 
+/// Full exchanges, unless the program is not there.
+fn exchanges() -> Result<(), String> {
+    if let Err(told) = program::is_there() {
+        println!("full exchanges are not timed: {told}");
+        return Ok(());
+    }
+    let mut random = Random::new(1);
+    println!("microseconds a full exchange, two sites of 64 certificates each");
+    for (name, make) in SORTS {
+        let mut all = Exchanged::default();
+        for _ in 0..FILES {
+            all.add(&exchanged(&shared_out(&make(&mut random)))?);
+        }
+        let [first, notes, quiet, needed] =
+            [all.first, all.notes, all.quiet, all.needed].map(|sum| sum / FILES as f64);
+        println!(
+            "{name:<34} first {first:>8.1} with {notes:>6.1} notes, quiet {quiet:>8.1}, rest after {needed:.1}"
+        );
+    }
+    Ok(())
+}
+
+/// Microseconds of the first exchange and of one without notes, the notes sent
+/// in the first, and the exchanges until both rest.
+#[derive(Default)]
+struct Exchanged {
+    first: f64,
+    quiet: f64,
+    notes: f64,
+    needed: f64,
+}
+
+impl Exchanged {
+    fn add(&mut self, other: &Exchanged) {
+        self.first += other.first;
+        self.quiet += other.quiet;
+        self.notes += other.notes;
+        self.needed += other.needed;
+    }
+}
+
+/// Every other certificate to each site.
+fn shared_out(certificates: &[Certificate]) -> Opening {
+    let half = |odd: usize| {
+        let held = certificates.iter().skip(odd).step_by(2);
+        file_of(&held.copied().collect::<Vec<Certificate>>())
+    };
+    Opening {
+        request: REQUEST,
+        session: 7,
+        files: [half(0), half(1)],
+    }
+}
+
+fn exchanged(opening: &Opening) -> Result<Exchanged, String> {
+    let mut exchange = Exchange::open(opening).map_err(|told| format!("{told:?}"))?;
+    exchange.act(Act::Full(Side::A));
+    let written = Side::BOTH.map(|side| exchange.written(side)).concat();
+    let notes = written.iter().filter(|note| note[4] == 1).count();
+    let mut needed = 1;
+    while !exchange.both_rest() {
+        exchange.act(Act::Full(Side::A));
+        needed += 1;
+    }
+    let [none, first] = [least_time(opening, 0)?, least_time(opening, 1)?];
+    let settled = least_time(opening, needed)?;
+    let quiet = least_time(opening, needed + QUIET)?;
+    Ok(Exchanged {
+        first: first - none,
+        quiet: (quiet - settled) / QUIET as f64,
+        notes: notes as f64,
+        needed: needed as f64,
+    })
+}
+
+/// Microseconds of the program with so many full exchanges.
+fn least_time(opening: &Opening, exchanges: usize) -> Result<f64, String> {
+    let acts = vec![Act::Full(Side::A).bytes(); exchanges].concat();
+    let input = [opening.bytes(), acts].concat();
+    let mut least = f64::INFINITY;
+    for _ in 0..RUNS {
+        let began = Instant::now();
+        program::exchange(black_box(&input))?;
+        least = least.min(began.elapsed().as_secs_f64() * 1e6);
+    }
+    Ok(least)
+}
+
 fn few_keys(random: &mut Random) -> Vec<Certificate> {
-    dense(5, 4, random)
+    dense::certificates(MOST, (5, 4), random)
 }
 
 fn many_keys(random: &mut Random) -> Vec<Certificate> {
-    dense(16, 10, random)
-}
-
-/// Names of any length, every fourth certificate an authorization.
-fn dense(keys: usize, identifiers: usize, random: &mut Random) -> Vec<Certificate> {
-    let mut certificates = Vec::new();
-    for place in 0..MOST {
-        let issuer = random.below(keys) as u8;
-        let subject = random.below(keys) as u8;
-        let length = random.one_of(&[0, 0, 1, 1, 2, 3]);
-        let some: Vec<u8> = (0..=length)
-            .map(|_| random.below(identifiers) as u8)
-            .collect();
-        let mark = random.one_of(&[MAY_DELEGATE, ACCESS_ONLY]);
-        let end = 100 + random.below(1_000) as u32;
-        let made = match place % 4 {
-            0 => Certificate::authorization(issuer, subject, &some[..length], mark),
-            _ => Certificate::name(issuer, some[length], subject, &some[..length]),
-        };
-        certificates.push(made.until(end));
-    }
-    certificates
+    dense::certificates(MOST, (16, 10), random)
 }
 
 /// Each name leads to the next, so that every pass finds one entry.

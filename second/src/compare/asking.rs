@@ -141,7 +141,7 @@ fn granted_asker(certificates: &[Certificate], request: Request, random: &mut Ra
 }
 
 /// One or two parts of the request go to a limit or past it.
-fn bend(request: &mut Request, random: &mut Random) {
+pub fn bend(request: &mut Request, random: &mut Random) {
     for _ in 0..random.within(1, 2) {
         match random.below(4) {
             0 => request.owner = random.one_of(&[0, 15, 16, 17, 255]),

@@ -89,6 +89,6 @@ pub fn unchanged(before: &[u8], file: &[u8]) -> Result<(), String> {
     ))
 }
 
-fn hex(bytes: &[u8]) -> String {
+pub fn hex(bytes: &[u8]) -> String {
     bytes.iter().map(|byte| format!("{byte:02x}")).collect()
 }

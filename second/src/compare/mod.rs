@@ -1,4 +1,5 @@
-//! The comparison of the second program with the proved archive. Each
+//! The comparison of the second program with the proved archive, and with the
+//! proved program of two sites. Each
 //! compared part is a module here with one function that is given the seeds
 //! and gives back a report, or says what went wrong.
 
@@ -6,14 +7,19 @@ pub mod asking;
 pub mod classes;
 pub mod difference;
 pub mod files;
+pub mod halving;
 #[cfg(feature = "decision")]
 pub mod held;
+pub mod judging;
 pub mod lending;
 pub mod limits;
 pub mod long;
 pub mod making;
+pub mod outside;
 #[cfg(feature = "decision")]
 pub mod questions;
+pub mod schedules;
+pub mod scheduling;
 pub mod tables;
 pub mod tally;
 
@@ -36,4 +42,5 @@ pub const PARTS: &[(&str, Part)] = &[
     ("files", files::compare),
     #[cfg(feature = "decision")]
     ("questions", questions::compare),
+    ("schedules", schedules::compare),
 ];

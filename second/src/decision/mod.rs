@@ -153,9 +153,15 @@ pub fn ask(file: &[u8], request: Request, places: Places) -> Result<Decision, Re
     Ok(decide(usable(file, request, places)?, request))
 }
 
+/// The question about certificates of several files together, which may be
+/// more than one file holds.
+pub fn ask_together(certificates: &[wac::Certificate], request: Request) -> Decision {
+    decide(rules::usable(certificates, request), request)
+}
+
 /// The usable certificates of a question that is not refused. The refusals
 /// are looked for in the order of their numbers.
-fn usable(file: &[u8], request: Request, places: Places) -> Result<Vec<Rule>, Refusal> {
+pub fn usable(file: &[u8], request: Request, places: Places) -> Result<Vec<Rule>, Refusal> {
     let certificates = lawful(file, &[request.owner, request.asker])?;
     if !(1..=15).contains(&request.rights) {
         return Err(Refusal::RightsOutside);

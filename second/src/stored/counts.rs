@@ -39,7 +39,7 @@ fn late_grant(count: usize) -> Vec<Certificate> {
 }
 
 /// A name handed on from key to key through every certificate but the first.
-fn relay(count: usize) -> Vec<Certificate> {
+pub fn relay(count: usize) -> Vec<Certificate> {
     let place = |number: usize| ((number % 15) as u8, (number / 15) as u8);
     let mut certificates = vec![Certificate::authorization(0, 0, &[0], MAY_DELEGATE)];
     for number in 0..count.saturating_sub(2) {

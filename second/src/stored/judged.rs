@@ -20,7 +20,7 @@ const CASES: [(u8, u8, u32, &str); 9] = [
 ];
 
 /// The seven certificates.
-fn certificates() -> Vec<Certificate> {
+pub fn certificates() -> Vec<Certificate> {
     vec![
         Certificate::authorization(0, 1, &[1, 0], MAY_DELEGATE).until(9000),
         Certificate::name(1, 1, 2, &[]).until(5000),

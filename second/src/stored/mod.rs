@@ -23,6 +23,7 @@ mod judged;
 mod papers;
 mod refused;
 mod sampled;
+pub mod schedules;
 
 use crate::decision::lines::{chains, line, parts};
 use crate::decision::{ask, Places, Verdict};
