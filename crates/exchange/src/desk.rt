@@ -6,6 +6,8 @@ use sites::Sending;
 use sites::Site;
 use sites::Taken;
 use wac::Table;
+ghost use Prim.Native.Nat.{_<_};
+ghost use Rattle.wac.specs.Limits.{entries};
 
 // The two sites, and how many notes of each are kept.
 pub struct Desk {
@@ -174,23 +176,49 @@ fn exchanges_note(
     after
 }
 
+// The two sites after a note was exchanged, and the entry from which the next is looked for.
+pub struct Sent {
+    pub desk: Desk,
+    pub next: usize,
+}
+
+// The first site's next note from an entry on goes to the second, and its receipt comes back.
+fn sends_next(desk: Desk, from: usize, first: &mut [u8], second: &mut [u8]) -> Sent
+    requires { ⌜ from < entries ⌝ }
+    ensures { λ r. ⌜ from < r .next ⌝ }
+{
+    let sender = desk.first;
+    let mut note = [0u8; Note::BYTES];
+    let sending = sites::next(sender, from, &mut note);
+    match sending {
+        Sending::Note(entry) => {
+            let after = exchanges_note(desk, note, first, second);
+            Sent {
+                desk: after,
+                next: entry + 1,
+            }
+        }
+        Sending::Nothing => Sent {
+            desk: desk,
+            next: Table::ENTRIES,
+        },
+        Sending::Refused => Sent {
+            desk: desk,
+            next: Table::ENTRIES,
+        },
+    }
+}
+
 // One half of a full exchange: the first site works and sends all its notes, and the receipts are taken.
 pub fn half(desk: Desk, first: &mut [u8], second: &mut [u8]) -> Desk {
     let done = works(desk);
     let mut after = done.desk;
     let mut from = 0;
     while from < Table::ENTRIES {
-        let sender = after.first;
-        let mut note = [0u8; Note::BYTES];
-        let sending = sites::next(sender, from, &mut note);
-        let Sending::Note(entry) = sending else {
-            return after;
-        };
-        after = exchanges_note(after, note, first, second);
-        if entry < from {
-            return after;
-        }
-        from = entry + 1;
+        let sent = sends_next(after, from, first, second);
+        let told = sent.desk;
+        after = told;
+        from = sent.next;
     }
     after
 }

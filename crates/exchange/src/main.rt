@@ -56,7 +56,9 @@ fn read_number() -> Number
 }
 
 // A file from standard input after its length: the length, and whether it was there.
-fn read_file(file: &mut [u8]) -> Number {
+fn read_file(file: &mut [u8]) -> Number
+    ensures { λ r. ⌜ r .value < 65536 ⌝ }
+{
     let length = read_number();
     if !length.whole {
         return length;

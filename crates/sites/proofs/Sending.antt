@@ -77,6 +77,12 @@ sent-note-of {x} {from} {l = l} {l′ = l′} (Sends.note room d low next same b
     subst (λ e. SentNote x from e l′) (sym here) (record { low = low; next = next; bytes = ap (take noteLength) bytes ∙ note-taken l (raiseOf x d) room })
 sent-note-of (Sends.nothing room none e same) = absurd (let z : _≡_ {A = ℕ} 0 1 = cc in omega arith)
 
+-- so it is of an entry at or above the one that was given
+pub sent-above : {x : Site} {from e : ℕ} {l l′ : List ℕ} {r : Sending} → Sends x from l r l′ → r ≡ sendings.Note e → (from ≤ e) × (e < entries)
+sent-above {x} {from} {l = l} {l′ = l′} sends same =
+    let n = sent-note-of (subst (λ r. Sends x from l r l′) same sends) in
+    (n .next .due (n .low) .0, n .low)
+
 pub sent-none-of : {x : Site} {from : ℕ} {l l′ : List ℕ} → Sends x from l sendings.Nothing l′ → NextDue x from entries
 sent-none-of (Sends.refused short e same) = absurd (let z : _≡_ {A = ℕ} 0 1 = cc in omega arith)
 sent-none-of (Sends.note room d low next same bytes) = absurd (let z : _≡_ {A = ℕ} 0 1 = cc in omega arith)

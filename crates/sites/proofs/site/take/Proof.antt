@@ -67,9 +67,9 @@ returns-2 c =
     let told = c .before .before .before .before .before .before .before .before .enum-told2 .given .1 in
     let said = c .before .before .before .before .before .before .before .note-from in
     record {
-    answer = c .before .before .before .before .before .before .before .before .before .before .answer-for .ensures;
-    site = c .before .before .before .before .before .raise-at .ensures ∙ ap (λ e. raisedSite (args .site) e (said .result .minute)) (c .before .before .before .before .before .before .entry-of .ensures) ∙ ap (λ n. raisedSite (args .site) (entryOf n) (n .minute)) (said .ensures) ∙ sym (ap (λ a. siteAfter a (args .site) (noteFrom (now (args .bytes)))) told);
-    bytes = c .before .before .write-note .ensures ∙ ap (λ n. sets (now (args .receipt)) 0 (noteBytes n)) (c .before .before .before .before .receipt-of .ensures ∙ ap receiptOf (said .ensures)) ∙ sym (ap (λ a. bytesAfter a (now (args .receipt)) (noteFrom (now (args .bytes)))) told);
+      answer = c .before .before .before .before .before .before .before .before .before .before .answer-for .ensures;
+      site = c .before .before .before .before .before .raise-at .ensures ∙ ap (λ e. raisedSite (args .site) e (said .result .minute)) (c .before .before .before .before .before .before .entry-of .ensures) ∙ ap (λ n. raisedSite (args .site) (entryOf n) (n .minute)) (said .ensures) ∙ sym (ap (λ a. siteAfter a (args .site) (noteFrom (now (args .bytes)))) told);
+      bytes = c .before .before .write-note .ensures ∙ ap (λ n. sets (now (args .receipt)) 0 (noteBytes n)) (c .before .before .before .before .receipt-of .ensures ∙ ap receiptOf (said .ensures)) ∙ sym (ap (λ a. bytesAfter a (now (args .receipt)) (noteFrom (now (args .bytes)))) told);
     }
 
 returns-3 : tie.Need-returns-3
@@ -78,9 +78,9 @@ returns-3 c =
     let told = c .before .before .before .enum-told3 .given .1 in
     let said = c .before .before .note-from2 in
     record {
-    answer = c .before .before .before .before .before .answer-for .ensures;
-    site = c .receipt-at .ensures ∙ ap (λ e. receiptedSite (args .site) e (said .result .minute)) (c .before .entry-of2 .ensures) ∙ ap (λ n. receiptedSite (args .site) (entryOf n) (n .minute)) (said .ensures) ∙ sym (ap (λ a. siteAfter a (args .site) (noteFrom (now (args .bytes)))) told);
-    bytes = sym (ap (λ a. bytesAfter a (now (args .receipt)) (noteFrom (now (args .bytes)))) told);
+      answer = c .before .before .before .before .before .answer-for .ensures;
+      site = c .receipt-at .ensures ∙ ap (λ e. receiptedSite (args .site) e (said .result .minute)) (c .before .entry-of2 .ensures) ∙ ap (λ n. receiptedSite (args .site) (entryOf n) (n .minute)) (said .ensures) ∙ sym (ap (λ a. siteAfter a (args .site) (noteFrom (now (args .bytes)))) told);
+      bytes = sym (ap (λ a. bytesAfter a (now (args .receipt)) (noteFrom (now (args .bytes)))) told);
     }
 
 pub take-spec : {M : Type 1} → statement M

@@ -1,0 +1,59 @@
+-- `sends_next` meets its contract: a note is of an entry at or above the given one.
+use native.Mathlib.Omega.{arith}
+use Rattle.sites.proofs.Sending.{sent-above}
+use borrow.Author.Needs.{needs}
+use Rattle.exchange.proofs.desk.sends_next.Statement.{statement}
+use Rattle.exchange.proofs.desk.sends_next.Tie as tie
+
+slice-aggregate-next : tie.Need-slice-aggregate-next
+slice-aggregate-next c = search needs
+
+next-requires : tie.Need-next-requires
+next-requires c κs = search needs
+
+enum-known-sending : tie.Need-enum-known-sending
+enum-known-sending c = search needs
+
+exchanges-note-requires : tie.Need-exchanges-note-requires
+exchanges-note-requires c κs = search needs
+
+add-entry : tie.Need-add-t18
+add-entry c = omega (arith, sent-above (c .before .before .before .before .before .before .before .before .before .before .before .next .ensures) (c .before .before .before .before .before .before .before .before .sending .given .1) .1)
+
+enum-told : tie.Need-enum-told
+enum-told c = search needs
+
+enum-told-2 : tie.Need-enum-told-2
+enum-told-2 c = search needs
+
+same-length : tie.Need-same-length
+same-length c = search needs
+
+same-length-2 : tie.Need-same-length-2
+same-length-2 c = search needs
+
+returns : tie.Need-returns
+returns c = omega (arith, sent-above (c .before .before .before .before .before .before .before .before .before .before .before .next .ensures) (c .before .before .before .before .before .before .before .before .sending .given .1) .0)
+
+returns-2 : tie.Need-returns-2
+returns-2 c = search needs
+
+returns-3 : tie.Need-returns-3
+returns-3 c = search needs
+
+pub sends-next-spec : {M : Type 1} → statement M
+sends-next-spec =
+    tie.close
+    (tie.spec
+    slice-aggregate-next
+    next-requires
+    enum-known-sending
+    exchanges-note-requires
+    add-entry
+    enum-told
+    enum-told-2
+    same-length
+    same-length-2
+    returns
+    returns-2
+    returns-3)
