@@ -26,7 +26,7 @@ use Rattle.notes.specs.Notes as rules
 use Rattle.notes.proofs.Main.{notes-safe, notes-agree, notes-stay, notes-rest, notes-accepted}
 use Rattle.sites.specs.Notes.{noteLength}
 use Rattle.sites.specs.Site.{Takes, restful, showing}
-use Rattle.sites.specs.Line.{System, Steps, Reached, bothFiles, JointMinute}
+use Rattle.sites.specs.Line.{System, Step, Steps, Reached, bothFiles, JointMinute}
 use Rattle.sites.specs.Exchange.{Exchanges}
 use Rattle.sites.specs.declared.site.Site.{Site}
 use Rattle.sites.specs.declared.site.NoteRefused.{NoteRefused}
@@ -37,10 +37,27 @@ use Rattle.sites.proofs.Sending.{rest-tables, tables-rest}
 use Rattle.sites.proofs.Following.{InOrder, begun-order, Followed, followed, follow-steps, system}
 use Rattle.sites.proofs.Exchanging.{exchanged}
 
+-- the two sites in each other's places
+abbrev swapped : System → System
+swapped x = record { a = x .b; b = x .a }
+
 -- what a site shows is its tables' minute
 shown-tables : {s : List ℕ} {q : Request} {session : ℕ} {x : Site} → Standing s q session x → showing x .minute ≡ ledger x .minute (q .owner) delegate endPlace
 unfolding showing
 shown-tables {x = x} st = ap (λ (q : Request). tableOf 0 (x .minutes) (q .owner) delegate endPlace) (st .request)
+
+-- the two sides are alike
+reached-swap : {f g : List ℕ} {q : Request} {session : ℕ} {x : System} → Reached f g q session x → Reached g f q session (swapped x)
+reached-swap r = record { word = r .word; from = swapped (r .from); begun-a = r .begun-b; begun-b = r .begun-a; steps = steps-swap (r .steps) }
+  where
+    steps-swap : {session : ℕ} {x y : System} → Steps session x y → Steps session (swapped x) (swapped y)
+    steps-swap Steps.none = Steps.none
+    steps-swap (Steps.more on (Step.step-a act)) = Steps.more (steps-swap on) (Step.step-b act)
+    steps-swap (Steps.more on (Step.step-b act)) = Steps.more (steps-swap on) (Step.step-a act)
+
+-- a site refuses none of these notes
+abbrev pub Accepts : Site → List (List ℕ) → Type 0
+Accepts x w = (b l l′ : List ℕ) (r : Taking) (why : NoteRefused) → List·Memᴰ b w → noteLength ≤ length l → Takes x b l r l′ → r .answer ≡ takens.Refused why → ⊥
 
 module _ {f g : List ℕ} {q : Request} {session : ℕ} {x : System} (r : Reached f g q session x) where
   f-order : InOrder f q
@@ -95,8 +112,12 @@ module _ {f g : List ℕ} {q : Request} {session : ℕ} {x : System} (r : Reache
       let rest = notes-rest (f-order .lawful) (g-order .lawful) (state .reached) n h (d .exchanges) in
       (tables-rest a (rest .0), tables-rest b (rest .1))
 
-  -- 4. A note that the other site wrote is never refused, if there is room for its receipt.
-  pub never-refused-a : {b l l′ : List ℕ} {t : Taking} {why : NoteRefused} → List·Memᴰ b (x .b .wrote) → noteLength ≤ length l → Takes (x .a .site) b l t l′ → t .answer ≡ takens.Refused why → ⊥
-  never-refused-a {b} {l} {t = t} {why} m room takes e =
+  -- A note that the second site wrote is never refused by the first.
+  first-accepts : Accepts (x .a .site) (x .b .wrote)
+  first-accepts b l l′ t why m room takes e =
       let k = follows (r .word) (state .a-stands) (state .b-honest b m) l room (t .answer) (takes .answer) (takes .site) (takes .bytes) in
       notes-accepted (f-order .lawful) (g-order .lawful) (state .reached) .0 (noteOf b) (Memᴰ·map noteOf m) (k .refused why e)
+
+-- 4. An honest note is never refused: one that the other site wrote, where there is room for its receipt.
+pub never-refused : {f g : List ℕ} {q : Request} {session : ℕ} {x : System} → Reached f g q session x → Accepts (x .a .site) (x .b .wrote) × Accepts (x .b .site) (x .a .wrote)
+never-refused r = (first-accepts r, first-accepts (reached-swap r))

@@ -40,7 +40,7 @@ use Rattle.notes.proofs.Good.{swap}
 use Rattle.notes.proofs.Running.{steps-swap}
 use Rattle.notes.proofs.Main.{due-formed}
 use Rattle.sites.specs.Notes.{noteLength, noteFrom, noteOk}
-use Rattle.sites.specs.Site.{openedSite, Opens, fileOf, takenAs, noteCases, siteAfter, Takes}
+use Rattle.sites.specs.Site.{openedSite, Opens, fileOf, takenAs, noteCases, siteAfter, bytesAfter, Takes}
 use Rattle.sites.specs.Line.{Party, receiptIn, Stray, Act, System, Step, Steps, Begun, Reached}
 use Rattle.sites.specs.declared.note.Note.{Note}
 use Rattle.sites.specs.declared.site.Site.{Site}
@@ -67,29 +67,27 @@ pub record InOrder (s : List ℕ) (q : Request) : Type 0 where
 
 -- a note that is refused changes nothing
 module _ (x : Site) (n : Note) (l : List ℕ) (w : List (List ℕ)) where
-  refused-stays : (t : Taken) {m : ℕ} {vs : List ℕ} → takenAs t ≡ refuses m vs → (siteAfter t x n ≡ x) × (receiptIn t l w ≡ w)
+  pub refused-stays : (t : Taken) {m : ℕ} {vs : List ℕ} → takenAs t ≡ refuses m vs → (siteAfter t x n ≡ x) × (receiptIn t l w ≡ w) × (bytesAfter t l n ≡ l)
   refused-stays takens.Raise e = absurd (gives-not-refuses e)
   refused-stays takens.Receipt e = absurd (gives-not-refuses e)
-  refused-stays (takens.Refused why) e = (refl, refl)
+  refused-stays (takens.Refused why) e = (refl, refl, refl)
 
 -- a note with no room for its receipt is refused
 no-room : (x : Site) (b l : List ℕ) → length l < noteLength → firstOf (noteCases x b (length l)) (noteFrom b .kind) ≡ refuses 23 []
 unfolding noteCases
 no-room x b l short = first-holds _ _ _ (lt-ltb _ _ short)
 
--- and so are bytes that are no note of this session
-stray-refused : {s : List ℕ} {q : Request} {session : ℕ} {x : Site} → Standing s q session x → (b l : List ℕ) → Stray session b →
+-- and so are bytes that are no note of the site's session
+pub foreign-refused : (x : Site) (b l : List ℕ) → (noteOk b ≡ true → (x .live && eqb (noteFrom b .session) (x .session)) ≡ false) →
     (n : ℕ) × (firstOf (noteCases x b (length l)) (noteFrom b .kind) ≡ refuses n [])
 unfolding noteCases
-stray-refused {x = x} st b l stray = by-cases (decLt (length l) noteLength)
+foreign-refused x b l foreign = by-cases (decLt (length l) noteLength)
     (λ short. (23, no-room x b l short))
     (λ room. turn (noteOk b) refl (le-ltb (length l) noteLength (omega arith)))
   where
     turn : (t : Bool) → noteOk b ≡ t → ltb (length l) noteLength ≡ false → (n : ℕ) × (firstOf (noteCases x b (length l)) (noteFrom b .kind) ≡ refuses n [])
     turn false bad room = (27, first-fails _ _ _ room ∙ first-holds _ _ _ (ap not bad))
-    turn true ok room =
-        let other : eqb (noteFrom b .session) (x .session) ≡ false = ne-eqb _ _ (λ same. stray ok (same ∙ st .of-session)) in
-        (26, first-fails _ _ _ room ∙ first-fails _ _ _ (ap not ok) ∙ first-holds _ _ _ (rw (st .live, other) refl))
+    turn true ok room = (26, first-fails _ _ _ room ∙ first-fails _ _ _ (ap not ok) ∙ first-holds _ _ _ (ap not (foreign ok)))
 
 -- what a site's act leaves: it stands, its notes are honest, and its tables and notes are as they were or as the rules' act leaves them
 record Acted (s : List ℕ) (q : Request) (session : ℕ) (theirs : List (List ℕ)) (p p′ : Party) : Type 0 where
@@ -137,7 +135,7 @@ module _ {s : List ℕ} {q : Request} {session : ℕ} (word : session ≤ withou
         acts = (let back : line.receives (noteOf b) (party p) ≡ party (record { site = r .site; wrote = receiptIn (r .answer) l′ (p .wrote) }) = sym (λ i. record { ledger = f .tables i; wrote = f .writes (p .wrote) i }) in
             inr (subst (line.Act (asked q) (rulesOf s q) (map noteOf theirs) (party p)) back (line.act-take (noteOf b) (Memᴰ·map noteOf m))));
       })
-  act-follows sendable (Act.act-stray b l l′ r stray takes) = refused takes (stray-refused st b l stray .1)
+  act-follows sendable (Act.act-stray b l l′ r stray takes) = refused takes (foreign-refused (p .site) b l (λ ok. (let other = ne-eqb _ _ (λ same. stray ok (same ∙ st .of-session)) in rw (st .live, other) refl)) .1)
 
 -- what is known of two sites on the line: both stand, all notes are honest, and their tables are a state of the rules
 pub record Followed (f g : List ℕ) (q : Request) (session : ℕ) (x : System) : Type 0 where

@@ -7,3 +7,4 @@ pub mod Sending  -- the notes that a site writes
 pub mod Following  -- two sites on the line do what the note rules say of their tables
 pub mod Exchanging  -- full exchanges of two sites are full exchanges of the rules
 pub mod Agreement  -- what is proved of two sites: demand 3
+pub mod Blank  -- the site of a refused opening

@@ -7,9 +7,12 @@ use native.Mathlib.Omega.{arith}
 use borrow.Author.Tests.{eqb-true, eq-eqb, ne-eqb, lt-ltb, ltb-true}
 use lib.Dec.{ltb, eqb}
 use lib.ListN.{length, take, drop}
-use lib.Seq.{sets, sets-eq, take-at}
+use lib.Seq.{sets, sets-eq, take-at, take-all}
 use Rattle.wac.specs.Limits.{access, withoutEnd}
-use Rattle.wac.proofs.RecordLaws.{word-read}
+use Rattle.wac.specs.Bytes.{AreBytes}
+use Rattle.wac.specs.File.{listed}
+use Rattle.wac.proofs.RecordLaws.{word-read, word-written}
+use Rattle.wac.proofs.RoundTrip.{take-listed}
 use Rattle.wac.proofs.Tests.{and-both, and-true, not-not}
 use Rattle.decision.specs.Table.{isEntry}
 use Rattle.sites.specs.Notes.{noteLength, raiseKind, receiptKind, noteFrom, noteBytes, formed, noteOk}
@@ -18,6 +21,15 @@ use Rattle.sites.specs.declared.note.Note.{Note}
 -- a note that is written and read is itself
 pub note-read-back : (n : Note) → n .session ≤ withoutEnd → n .minute ≤ withoutEnd → noteFrom (noteBytes n) ≡ n
 note-read-back n session minute = rw (word-read (n .session) session, word-read (n .minute) minute)
+
+-- and 12 bytes that are read and written are those bytes
+pub note-written-back : (b : List ℕ) → AreBytes b → length b ≡ noteLength → noteBytes (noteFrom b) ≡ b
+unfolding listed
+note-written-back b bytes long =
+    let session = word-written _ _ _ _ (bytes 0) (bytes 1) (bytes 2) (bytes 3) in
+    let minute = word-written _ _ _ _ (bytes 8) (bytes 9) (bytes 10) (bytes 11) in
+    rw (session .0, session .1, session .2, session .3, minute .0, minute .1, minute .2, minute .3)
+    (sym (take-listed noteLength b (omega arith)) ∙ take-all noteLength b (omega arith))
 
 -- lent bytes in which a note was written have it in the first 12 places
 pub note-taken : (l : List ℕ) (n : Note) → noteLength ≤ length l → take noteLength (sets l 0 (noteBytes n)) ≡ noteBytes n

@@ -34,7 +34,7 @@ module _ {A : Type 0} where
   listed-same (suc n) f g h = rw (h zero) (ap (λ r. g zero ∷ r) (listed-same n (λ k. f (suc k)) (λ k. g (suc k)) (λ k. h (suc k))))
 
 -- the first n elements of a list, one by one
-take-listed : (n : ℕ) (s : List ℕ) → n ≤ length s → take n s ≡ listed n (λ i. getD s i 0)
+pub take-listed : (n : ℕ) (s : List ℕ) → n ≤ length s → take n s ≡ listed n (λ i. getD s i 0)
 unfolding listed
 take-listed zero s h = refl
 take-listed (suc n) [] h = absurd (not-suc-le-zero h)
