@@ -45,8 +45,8 @@ loop-less c = omega arith
 loop-again : tie.Need-loop-again Inv-loop μ-loop
 loop-again c =
     let h = c .before .before .before .before .loop in (
-    omega arith,
-    λ d l b. ⊎-elim (λ (q : d ≡ h .entry). rw q (c .if1 .left)) (λ m. h .inv .1 d l m) (eq-or-lt-of-le (let z : d ≤ h .entry = omega arith in z)),
+      omega arith,
+      λ d l b. ⊎-elim (λ (q : d ≡ h .entry). rw q (c .if1 .left)) (λ m. h .inv .1 d l m) (eq-or-lt-of-le (let z : d ≤ h .entry = omega arith in z)),
     )
 
 returns-2 : tie.Need-returns-2 Inv-loop μ-loop
