@@ -6,7 +6,7 @@ use mathlib.Core.List.{List, [], _∷_, _++_}
 use Prim.Native.Nat.{ℕ, suc, _+_, _<_, _≤_}
 use native.Mathlib.Omega.{arith}
 use native.Mathlib.Numerals.{add-one}
-use borrow.Author.Tests.{ltb-true, ltb-false, leb-true, leb-false, eqb-true, lt-ltb, le-ltb, le-leb, lt-leb, eq-eqb, ne-eqb, not-false}
+use borrow.Author.Tests.{ltb-true, ltb-false, leb-true, leb-false, eqb-true, lt-ltb, le-ltb, lt-leb, eq-eqb, ne-eqb, not-false}
 use lib.Dec.{leb, ltb, eqb}
 use lib.ListN.{length, getD, take, drop, set, replicate, length-set, length-replicate}
 use lib.Seq.{length-take-le, take-all, take-suc, drop-cons, set-at, append-snoc}
@@ -15,10 +15,10 @@ use Rattle.wac.specs.Answers.{gives, refuses, _if_, firstOf}
 use Rattle.wac.specs.Ranges.{allBelow}
 use Rattle.wac.proofs.Cases.{first-none, first-holds, first-fails, first-passed}
 use Rattle.wac.proofs.Tests.{and-true, false-and, and-both, and-false, allBelow-true, allBelow-false}
+use Rattle.wac.proofs.FileLaws.{file-kept}
 use Rattle.rewriting.specs.Weighing.{minutes}
 use Rattle.rewriting.specs.Entries.{Mark}
 use Rattle.decision.specs.Table.{isEntry, number, entryNumber, tableOf}
-use Rattle.wac.proofs.FileLaws.{file-kept}
 use Rattle.decision.specs.Engine.{Accepted}
 use Rattle.decision.specs.Question.{Settles, Settles.refused, Settles.settled}
 use Rattle.decision.specs.declared.request.Request.{Request}
@@ -26,13 +26,15 @@ use Rattle.decision.specs.declared.lens.Lens.the-variants.{Minutes}
 use Rattle.decision.specs.declared.question.Refused.{Refused}
 use Rattle.decision.specs.declared.question.Settling.{Settling}
 use Rattle.decision.specs.declared.question.Settling.the-variants as settlings
-use Rattle.decision.proofs.Choices.{when-true, when-false}
+use Rattle.decision.proofs.Choices.{when-true}
 use Rattle.decision.proofs.TableLaws.{number-low}
 use Rattle.decision.proofs.PassingLaws.{asker-entry, started}
 use Rattle.sites.specs.Notes.{noteLength, raiseKind, receiptKind, noteFrom, formed, noteOk}
-use Rattle.sites.specs.Site.{copied, startOf, openedSite, minuteAt, receiptedAt, entryOf, noteCases, NextDue, restful}
+use Rattle.sites.specs.Site.{copied, startOf, openedSite, minuteAt, receiptedAt, entryOf, takenAs, noteCases, siteAfter, bytesAfter, Takes, NextDue, restful}
 use Rattle.sites.specs.declared.note.Note.{Note}
 use Rattle.sites.specs.declared.site.Site.{Site}
+use Rattle.sites.specs.declared.site.Taken.{Taken}
+use Rattle.sites.specs.declared.site.Taking.{Taking}
 
 -- what the number of an entry says, 2,592 standing for none
 module _ (k s a : ℕ) where
@@ -151,6 +153,15 @@ module _ (x : Site) (b : List ℕ) (room kind : ℕ) where
       let first = first-passed _ _ _ e in
       let whole = note-whole b (not-false _ (first-passed _ _ _ (first .1) .0)) in
       (ltb-false _ _ (first .0), whole .0, whole .1)
+
+-- a note is taken by its answer, and the site and the lent bytes are those of it
+pub takes-as : {x : Site} {b l : List ℕ} {r : Taking} {l′ : List ℕ} {answer : Taken} → r .answer ≡ answer → takenAs (r .answer) ≡ firstOf (noteCases x b (length l)) (noteFrom b .kind) →
+    r .site ≡ siteAfter answer x (noteFrom b) → l′ ≡ bytesAfter answer l (noteFrom b) → Takes x b l r l′
+takes-as {x} {b} {l} told case site bytes = record {
+  answer = case;
+  site = site ∙ sym (ap (λ a. siteAfter a x (noteFrom b)) told);
+  bytes = bytes ∙ sym (ap (λ a. bytesAfter a l (noteFrom b)) told);
+}
 
 -- copying one byte more
 pub copied-more : (i : ℕ) (from to : List ℕ) → i < length from → i < length to → set (take i from ++ drop i to) i (getD from i 0) ≡ take (i + 1) from ++ drop (i + 1) to

@@ -6,18 +6,16 @@ use Prim.Native.Nat.{ℕ, _<_}
 use native.Mathlib.Omega.{arith}
 use borrow.Author.Tests.{ltb-true, ltb-false}
 use lib.Dec.{ltb, eqb}
-use lib.ListN.{length}
 use lib.Seq.{sets}
 use Rattle.wac.specs.Limits.{entries}
 use Rattle.wac.specs.Answers.{Answer, gives, refuses}
 use Rattle.wac.proofs.Cases.{gives-not-refuses}
 use Rattle.wac.proofs.Unique.{told-apart}
 use Rattle.decision.specs.declared.request.Request.{Request}
-use Rattle.decision.specs.declared.question.Refused.{Refused}
 use Rattle.decision.specs.declared.question.Admitted.the-variants as admits
 use Rattle.decision.proofs.Unique.{admit-unique, settles-unique}
 use Rattle.sites.specs.Notes.{raiseKind, noteFrom, noteBytes}
-use Rattle.sites.specs.Site.{blankSite, Opens, workedSite, Works, takenAs, noteNumber, siteAfter, bytesAfter, Takes, raiseOf, NextDue, Sends}
+use Rattle.sites.specs.Site.{blankSite, Opens, workedSite, Works, takenAs, siteAfter, bytesAfter, Takes, raiseOf, NextDue, Sends}
 use Rattle.sites.specs.declared.site.Site.{Site}
 use Rattle.sites.specs.declared.site.Opening.{Opening}
 use Rattle.sites.specs.declared.site.Opened.the-variants as opens

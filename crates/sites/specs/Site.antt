@@ -1,8 +1,8 @@
 -- What each function makes of a site: document 01, "Two sites" and the rows 20 to 28 of "What comes back".
 use mathlib.Core.Path.{_≡_}
-use mathlib.Core.Bool.{Bool, true, false, cond, not, _&&_}
+use mathlib.Core.Bool.{Bool, true, false, not, _&&_}
 use mathlib.Core.List.{List, [], _∷_, _++_}
-use Prim.Native.Nat.{ℕ, _+_, _-_, _≤_, _<_, min, max}
+use Prim.Native.Nat.{ℕ, _≤_, _<_, min, max}
 use lib.Dec.{leb, ltb, eqb}
 use lib.ListN.{length, getD, take, drop, set, replicate}
 use lib.Seq.{sets}
@@ -12,7 +12,7 @@ use Rattle.wac.specs.Ranges.{allBelow}
 use Rattle.wac.specs.File.{countOf, fileCases}
 use Rattle.rewriting.specs.Passes.{start}
 use Rattle.decision.specs.Lens.{questionBy}
-use Rattle.decision.specs.Table.{number, entryNumber, keyOf, symbolOf, arrivalOf, tableOf, rowOf}
+use Rattle.decision.specs.Table.{entryNumber, keyOf, symbolOf, arrivalOf, tableOf, rowOf}
 use Rattle.decision.specs.Question.{requestOf, requestCases, refusedAs, Settles}
 use Rattle.decision.specs.declared.request.Request.{Request}
 use Rattle.decision.specs.declared.lens.Lens.the-variants.{Minutes}

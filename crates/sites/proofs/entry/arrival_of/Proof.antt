@@ -1,7 +1,7 @@
 -- `arrival_of` meets its contract: identifiers first, then the marks.
 use borrow.Author.Tests.{lt-ltb, le-ltb}
-use Rattle.decision.specs.Table.{arrivalOf}
 use borrow.Author.Needs.{needs}
+use Rattle.decision.specs.Table.{arrivalOf}
 use Rattle.sites.proofs.entry.arrival_of.Statement.{statement}
 use Rattle.sites.proofs.entry.arrival_of.Tie as tie
 

@@ -1,8 +1,8 @@
 -- `key_of` meets its contract: identifiers first, then the marks.
 use native.Mathlib.Omega.{arith}
 use borrow.Author.Tests.{lt-ltb, le-ltb}
-use Rattle.decision.specs.Table.{keyOf}
 use borrow.Author.Needs.{needs}
+use Rattle.decision.specs.Table.{keyOf}
 use Rattle.sites.proofs.entry.key_of.Statement.{statement}
 use Rattle.sites.proofs.entry.key_of.Tie as tie
 

@@ -1,8 +1,8 @@
 -- `symbol_of` meets its contract: identifiers first, then the marks.
 use native.Mathlib.Omega.{arith}
 use borrow.Author.Tests.{lt-ltb, le-ltb}
-use Rattle.decision.specs.Table.{symbolOf}
 use borrow.Author.Needs.{needs}
+use Rattle.decision.specs.Table.{symbolOf}
 use Rattle.sites.proofs.entry.symbol_of.Statement.{statement}
 use Rattle.sites.proofs.entry.symbol_of.Tie as tie
 

@@ -1,10 +1,10 @@
 -- `is_formed` meets its contract, test by test.
 use mathlib.Core.Path.{_≡_, sym, _∙_, ap}
 use mathlib.Core.Logic.{_⊎_, inl, inr, ⊎-elim}
+use borrow.Author.Needs.{needs}
 use lib.Dec.{ltb}
 use Rattle.sites.specs.Notes.{raiseKind, receiptKind}
 use Rattle.sites.proofs.SiteLaws.{entry-test, no-kind, no-minute, high-symbol, formed-entry}
-use borrow.Author.Needs.{needs}
 use Rattle.sites.proofs.note.is_formed.Statement.{statement}
 use Rattle.sites.proofs.note.is_formed.Tie as tie
 

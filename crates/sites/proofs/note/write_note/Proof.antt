@@ -1,7 +1,7 @@
 -- `write_note` meets its contract: the note's bytes are stored one after another.
 use native.Mathlib.Omega.{arith}
-use lib.ListN.{length-set}
 use borrow.Author.Needs.{needs}
+use lib.ListN.{length-set}
 use Rattle.sites.proofs.note.write_note.Statement.{statement}
 use Rattle.sites.proofs.note.write_note.Tie as tie
 

@@ -4,17 +4,19 @@ use mathlib.Core.Path.{_≡_, sym, ap, _∙_}
 use Prim.Native.Nat.{_<_}
 use native.Mathlib.Omega.{arith}
 use borrow.Author.Tests.{not-true, not-false}
+use borrow.Author.Needs.{needs}
 use Rattle.wac.specs.Limits.{entries}
 use Rattle.wac.specs.Answers.{gives}
 use Rattle.sites.specs.Notes.{formed}
 use Rattle.sites.proofs.SiteLaws.{other-kind, entry-low, few-bytes, wrong-length, ill-formed, not-live, other-session, taken-raise, later-minute, taken-receipt}
-use borrow.Author.Needs.{needs}
 use Rattle.sites.proofs.site.answer_for.Statement.{statement}
 use Rattle.sites.proofs.site.answer_for.Tie as tie
 
+-- past the test of its form the note is in order
 in-order : (c : tie.Else3) → formed (c .before .before .note-from .result) ≡ true
 in-order c = sym (c .before .is-formed .ensures) ∙ not-false _ (c .if3 .left)
 
+-- and names an entry
 low : (c : tie.After-entry-of) → c .entry-of .result < entries
 low c = let e = c .entry-of .ensures in let l = entry-low _ (in-order (c .before .before .before .before .before .before)) in omega arith
 

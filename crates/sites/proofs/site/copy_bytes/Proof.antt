@@ -1,5 +1,5 @@
 -- `copy_bytes` meets its contract. The loop's invariant: the bytes passed are copied, and the rest is as it was. The measure is what is left.
-use mathlib.Core.Path.{_≡_, refl, ap, _∙_}
+use mathlib.Core.Path.{_≡_, refl, _∙_}
 use mathlib.Core.List.{_++_}
 use Prim.Native.Nat.{_≤_, _-_}
 use native.Mathlib.Omega.{arith}

@@ -1,11 +1,11 @@
 -- `next` meets its contract: the note of the lowest entry that is due.
 use mathlib.Core.Path.{refl, ap, _∙_}
+use borrow.Author.Needs.{needs}
 use denote.Ref.{now}
 use lib.Seq.{sets}
 use Rattle.sites.specs.Notes.{noteBytes}
 use Rattle.sites.specs.Site.{Sends.refused, Sends.note, Sends.nothing}
 use Rattle.sites.proofs.SiteLaws.{none-due}
-use borrow.Author.Needs.{needs}
 use Rattle.sites.proofs.site.next.Statement.{statement}
 use Rattle.sites.proofs.site.next.Tie as tie
 

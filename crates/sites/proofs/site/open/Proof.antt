@@ -1,12 +1,11 @@
 -- `open` meets its contract: refused with a blank site, or the site.
-use mathlib.Core.Path.{_≡_, refl, sym, ap, _∙_}
-use denote.Ref.{now}
+use mathlib.Core.Path.{sym, ap, _∙_}
+use borrow.Author.Needs.{needs}
 use Rattle.wac.specs.Answers.{gives}
-use Rattle.decision.specs.Question.{admittedAs, requestOf, Ready}
+use Rattle.decision.specs.Question.{admittedAs}
 use Rattle.decision.proofs.AskLaws.{admitted-ready}
 use Rattle.sites.specs.Site.{Opens.refused, Opens.opened}
 use Rattle.sites.proofs.SiteLaws.{file-low}
-use borrow.Author.Needs.{needs}
 use Rattle.sites.proofs.site.open.Statement.{statement}
 use Rattle.sites.proofs.site.open.Tie as tie
 

@@ -1,8 +1,8 @@
 -- `rests` meets its contract: it has worked, and no entry is due.
 use mathlib.Core.Path.{sym}
 use borrow.Author.Tests.{not-true, not-false}
-use Rattle.sites.proofs.SiteLaws.{not-idle, idle-rest}
 use borrow.Author.Needs.{needs}
+use Rattle.sites.proofs.SiteLaws.{not-idle, idle-rest}
 use Rattle.sites.proofs.site.rests.Statement.{statement}
 use Rattle.sites.proofs.site.rests.Tie as tie
 

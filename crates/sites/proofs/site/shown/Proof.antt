@@ -1,9 +1,8 @@
 -- `shown` meets its contract: the owner's mark 10 entry, and 0 where there is no such entry.
-use mathlib.Core.Path.{ap, _∙_, sym}
 use native.Mathlib.Omega.{arith}
+use borrow.Author.Needs.{needs}
 use Rattle.sites.specs.Site.{showing}
 use Rattle.sites.proofs.SiteLaws.{table-none, table-there}
-use borrow.Author.Needs.{needs}
 use Rattle.sites.proofs.site.shown.Statement.{statement}
 use Rattle.sites.proofs.site.shown.Tie as tie
 

@@ -1,6 +1,6 @@
 -- `site_on` meets its contract: the file is copied, and the minutes are those of the start.
-use Rattle.sites.proofs.SiteLaws.{opened-with}
 use borrow.Author.Needs.{needs}
+use Rattle.sites.proofs.SiteLaws.{opened-with}
 use Rattle.sites.proofs.site.site_on.Statement.{statement}
 use Rattle.sites.proofs.site.site_on.Tie as tie
 

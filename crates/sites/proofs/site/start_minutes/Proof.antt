@@ -2,8 +2,8 @@
 use mathlib.Core.Logic.{inl, inr}
 use mathlib.Core.Path.{refl}
 use native.Mathlib.Omega.{arith}
-use Rattle.sites.proofs.SiteLaws.{mark-low, start-set}
 use borrow.Author.Needs.{needs}
+use Rattle.sites.proofs.SiteLaws.{mark-low, start-set}
 use Rattle.sites.proofs.site.start_minutes.Statement.{statement}
 use Rattle.sites.proofs.site.start_minutes.Tie as tie
 

@@ -3,13 +3,13 @@ use mathlib.Core.Path.{_≡_, refl, sym, _∙_, subst}
 use mathlib.Core.Logic.{⊎-elim}
 use Prim.Native.Nat.{min}
 use native.Mathlib.Omega.{arith}
+use borrow.Author.Needs.{needs}
 use lib.ListN.{length, take, length-map}
 use lib.Seq.{length-take-le}
 use Rattle.wac.specs.Limits.{largestFile}
 use Rattle.decision.specs.Question.{Settles}
 use Rattle.sites.specs.Site.{fileOf, Works.worked, Works.refused}
 use Rattle.sites.proofs.SiteLaws.{settle-stays}
-use borrow.Author.Needs.{needs}
 use Rattle.sites.proofs.site.work.Statement.{statement}
 use Rattle.sites.proofs.site.work.Tie as tie
 
@@ -20,6 +20,14 @@ file-length c = sym (length-map (c .args .site .file) (λ v. v)) ∙ c .good .0 
 -- and of it at most so many bytes are used
 used-is : (c : tie.Joined1) → c .if1 .used ≡ min (c .before .before .before .args .site .used) largestFile
 used-is c = ⊎-elim (λ x. omega (arith, x .0 .taken, x .1)) (λ x. omega (arith, x .0 .left, x .1)) (c .if1 .came)
+
+-- the site's own file settles the table
+settles : (c : tie.After-settle) →
+    let x = c .before .before .before .before .before .before .args .site in
+    Settles (fileOf x) (x .request) (c .settle .result) (x .minutes) (c .settle .last .1 .1 .0)
+settles c =
+    let x = c .before .before .before .before .before .before .args .site in
+    subst (λ n. Settles (take n (x .file)) (x .request) (c .settle .result) (x .minutes) (c .settle .last .1 .1 .0)) (used-is (c .before .before .before)) (c .settle .ensures)
 
 array-share-prefix-file : tie.Need-array-share-prefix-file
 array-share-prefix-file c = omega (arith, file-length (c .before .before .before), used-is c)
@@ -40,18 +48,12 @@ enum-told-2 : tie.Need-enum-told-2
 enum-told-2 c = search needs
 
 returns : tie.Need-returns
-returns c =
-    let x = c .before .before .before .before .before .before .before .before .before .args .site in
-    let settle = c .before .before .before .settle in
-    let settles = subst (λ n. Settles (take n (x .file)) (x .request) (settle .result) (x .minutes) (settle .last .1 .1 .0)) (used-is (c .before .before .before .before .before .before)) (settle .ensures) in
-    refused _ (settle-stays _ settles (c .enum-told .given .1)) refl
+returns c = refused _ (settle-stays _ (settles (c .before .before .before)) (c .enum-told .given .1)) refl
 
 returns-2 : tie.Need-returns-2
 returns-2 c =
     let x = c .before .before .before .before .before .before .before .before .before .args .site in
-    let settle = c .before .before .before .settle in
-    let settles = subst (λ n. Settles (take n (x .file)) (x .request) (settle .result) (x .minutes) (settle .last .1 .1 .0)) (used-is (c .before .before .before .before .before .before)) (settle .ensures) in
-    worked _ _ (subst (λ r. Settles (fileOf x) (x .request) r (x .minutes) (settle .last .1 .1 .0)) (c .enum-told2 .given .1) settles) refl
+    worked _ _ (subst (λ r. Settles (fileOf x) (x .request) r (x .minutes) (c .before .before .before .settle .last .1 .1 .0)) (c .enum-told2 .given .1) (settles (c .before .before .before))) refl
 
 pub work-spec : {M : Type 1} → statement M
 work-spec =
