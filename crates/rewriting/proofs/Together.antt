@@ -3,7 +3,7 @@
 use mathlib.Core.Path.{_≡_, sym, _∙_, subst}
 use mathlib.Core.Logic.{_⊎_, inl, inr, ⊎-elim, by-cases}
 use mathlib.Core.Bool.{true}
-use Prim.Native.Nat.{ℕ, suc, _+_, _-_, _<_, _≤_}
+use Prim.Native.Nat.{ℕ, _+_, _-_, _<_, _≤_}
 use native.Mathlib.Omega.{arith}
 use native.Mathlib.Decide.{decLt}
 use borrow.Author.Tests.{lt-ltb, le-ltb}
@@ -11,7 +11,7 @@ use Rattle.rewriting.specs.Weighing.{Weighing, AtMost}
 use Rattle.rewriting.specs.Rewriting.{Rules, Question, Weighty}
 use Rattle.rewriting.specs.Entries.{Certificate, Entry, Lawful, Fires}
 use Rattle.rewriting.specs.Passes.{Table, brought, pass}
-use Rattle.rewriting.specs.Tables.{Below, Sound, Started, Closed, Last, Climbs}
+use Rattle.rewriting.specs.Tables.{Below, Sound, Started, Closed, Last}
 use Rattle.rewriting.specs.Together.{Copy, Among, joined, together}
 use Rattle.rewriting.proofs.Order.{at-most-trans}
 use Rattle.rewriting.proofs.Copies.{copy-fires, copy-brings}
@@ -110,9 +110,3 @@ module _ (Q : Question) (R T : Rules) where
   -- A table that is sound for both files together, has the start, and that neither file's pass improves, is the last for both.
   pub together-last : (t : Table) → Sound Q (together R T) t → Started Q t → Closed Q R t → Closed Q T t → Last Q (together R T) t
   together-last t sound started first second = record { sound = sound; started = started; closed = pass-together t t first second }
-
-  -- Tables that are sound for both files together and rise by at least a pass of each file climb: the bound is theirs.
-  pub together-climb : (X : ℕ → Table) → ((n : ℕ) → Sound Q (together R T) (X n)) → Started Q (X 0) →
-      ((n : ℕ) → Below Q (pass Q R (X n)) (X (suc n))) → ((n : ℕ) → Below Q (pass Q T (X n)) (X (suc n))) → Climbs Q (together R T) X
-  together-climb X sound started first second =
-      record { sound = sound; started = started; passed = λ n. pass-together (X n) (X (suc n)) (first n) (second n) }

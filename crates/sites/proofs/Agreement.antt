@@ -118,6 +118,16 @@ module _ {f g : List ℕ} {q : Request} {session : ℕ} {x : System} (r : Reache
       let k = follows (r .word) (state .a-stands) (state .b-honest b m) l room (t .answer) (takes .answer) (takes .site) (takes .bytes) in
       notes-accepted (f-order .lawful) (g-order .lawful) (state .reached) .0 (noteOf b) (Memᴰ·map noteOf m) (k .refused why e)
 
+-- What comes after a state reached is reached,
+reached-on : {f g : List ℕ} {q : Request} {session : ℕ} {x y : System} → Reached f g q session x → Steps session x y → Reached f g q session y
+reached-on r Steps.none = r
+reached-on r (Steps.more on step) = let k = reached-on r on in record { word = k .word; from = k .from; begun-a = k .begun-a; begun-b = k .begun-b; steps = Steps.more (k .steps) step }
+
+-- so both still show that minute in every later state.
+pub later-agrees : {f g : List ℕ} {q : Request} {session : ℕ} {x y : System} → Reached f g q session x → restful (x .a .site) ≡ true → restful (x .b .site) ≡ true → Steps session x y →
+    JointMinute f g q (showing (y .a .site) .minute) × JointMinute f g q (showing (y .b .site) .minute)
+later-agrees r a b on = let rest = rest-stays r a b on in rest-agrees (reached-on r on) (rest .0) (rest .1)
+
 -- 4. An honest note is never refused: one that the other site wrote, where there is room for its receipt.
 pub never-refused : {f g : List ℕ} {q : Request} {session : ℕ} {x : System} → Reached f g q session x → Accepts (x .a .site) (x .b .wrote) × Accepts (x .b .site) (x .a .wrote)
 never-refused r = (first-accepts r, first-accepts (reached-swap r))

@@ -50,6 +50,7 @@ use Rattle.sites.specs.declared.site.Opened.the-variants as opens
 use Rattle.sites.specs.declared.site.Taken.{Taken}
 use Rattle.sites.specs.declared.site.Taken.the-variants as takens
 use Rattle.sites.specs.declared.site.Taking.{Taking}
+use Rattle.sites.proofs.SiteLaws.{few-bytes}
 use Rattle.sites.proofs.Ledgers.{ledger, noteOf, Standing, Honest, AllHonest, honest-more, site-works, Follows, follows}
 use Rattle.sites.proofs.Sending.{due-tables, sent-note-of, Sendable, raise-honest, raise-says}
 
@@ -72,17 +73,12 @@ module _ (x : Site) (n : Note) (l : List ℕ) (w : List (List ℕ)) where
   refused-stays takens.Receipt e = absurd (gives-not-refuses e)
   refused-stays (takens.Refused why) e = (refl, refl, refl)
 
--- a note with no room for its receipt is refused
-no-room : (x : Site) (b l : List ℕ) → length l < noteLength → firstOf (noteCases x b (length l)) (noteFrom b .kind) ≡ refuses 23 []
-unfolding noteCases
-no-room x b l short = first-holds _ _ _ (lt-ltb _ _ short)
-
--- and so are bytes that are no note of the site's session
+-- bytes that are no note of the site's session are refused
 pub foreign-refused : (x : Site) (b l : List ℕ) → (noteOk b ≡ true → (x .live && eqb (noteFrom b .session) (x .session)) ≡ false) →
     (n : ℕ) × (firstOf (noteCases x b (length l)) (noteFrom b .kind) ≡ refuses n [])
 unfolding noteCases
 foreign-refused x b l foreign = by-cases (decLt (length l) noteLength)
-    (λ short. (23, no-room x b l short))
+    (λ short. (23, few-bytes x b (length l) (noteFrom b .kind) short))
     (λ room. turn (noteOk b) refl (le-ltb (length l) noteLength (omega arith)))
   where
     turn : (t : Bool) → noteOk b ≡ t → ltb (length l) noteLength ≡ false → (n : ℕ) × (firstOf (noteCases x b (length l)) (noteFrom b .kind) ≡ refuses n [])
@@ -126,7 +122,7 @@ module _ {s : List ℕ} {q : Request} {session : ℕ} (word : session ≤ withou
             (line.act-send (keyOf e) (symbolOf e) (arrivalOf e) here (due-tables (p .site) e (n .low) due)));
       }
   act-follows sendable (Act.act-take b l l′ r m takes) = by-cases (decLt (length l) noteLength)
-      (λ short. refused takes (no-room (p .site) b l short))
+      (λ short. refused takes (few-bytes (p .site) b (length l) (noteFrom b .kind) short))
       (λ room.
       let f = follows word st (others b m) l (omega arith) (r .answer) (takes .answer) (takes .site) (takes .bytes) in
       record {

@@ -45,6 +45,7 @@ use Rattle.sites.specs.declared.site.NoteRefused.{NoteRefused}
 use Rattle.sites.specs.declared.site.Taken.{Taken}
 use Rattle.sites.specs.declared.site.Taken.the-variants as takens
 use Rattle.sites.specs.declared.site.Taking.{Taking}
+use Rattle.sites.proofs.SiteLaws.{note-whole, this-session}
 use Rattle.sites.proofs.NoteLaws.{note-read-back, note-taken, Fields, formed-fields, fields-formed}
 
 -- the tables that a site keeps
@@ -236,20 +237,16 @@ module _ {s : List ℕ} {q : Request} {session : ℕ} (word : session ≤ withou
   said = noteFrom b
 
   fields : Fields said
-  unfolding noteOk
-  fields = formed-fields said (and-both (eqb (length b) noteLength) (formed said) (h .ok) .1)
-
-  own-session : (x .live && eqb (said .session) (x .session)) ≡ true
-  own-session = rw (st .live, eq-eqb (said .session) (x .session) (h .of-session ∙ sym (st .of-session)))
+  fields = formed-fields said (note-whole b (h .ok) .1)
 
   abbrev isLate : Bool
   isLate = eqb (said .kind) receiptKind && ltb (minuteAt x (entryOf said)) (said .minute)
 
   -- of the refusals only the last can hold
   only-late : firstOf (noteCases x b (length l)) (said .kind) ≡ firstOf ((28 if isLate) ∷ []) (said .kind)
-  unfolding noteCases
-  only-late = first-fails _ _ _ (le-ltb _ _ room) ∙ first-fails _ _ _ (ap not (h .ok))
-      ∙ first-fails _ _ _ (ap not own-session)
+  only-late =
+      let whole = note-whole b (h .ok) in
+      this-session x b (length l) (said .kind) room (whole .0) said refl (whole .1) (st .live) (h .of-session ∙ sym (st .of-session))
 
   given-late : {v : ℕ} → gives v ≡ firstOf (noteCases x b (length l)) (said .kind) → (isLate ≡ false) × (said .kind ≡ v)
   given-late e =

@@ -35,6 +35,7 @@ use Rattle.sites.specs.declared.note.Note.{Note}
 use Rattle.sites.specs.declared.site.Site.{Site}
 use Rattle.sites.specs.declared.site.Taken.{Taken}
 use Rattle.sites.specs.declared.site.Taking.{Taking}
+use Rattle.sites.proofs.NoteLaws.{formed-fields}
 
 -- what the number of an entry says, 2,592 standing for none
 module _ (k s a : ℕ) where
@@ -84,16 +85,10 @@ module _ (n : Note) where
 
   -- a note in order that is no raise is a receipt, and names an entry
   pub other-kind : formed n ≡ true → (n .kind ≡ raiseKind → ⊥) → n .kind ≡ receiptKind
-  unfolding formed
-  other-kind ok h = let both = and-both (eqb (n .kind) raiseKind || eqb (n .kind) receiptKind) _ ok in eqb-true (n .kind) receiptKind (rw (ne-eqb (n .kind) raiseKind h) at (both .0))
+  other-kind ok h = eqb-true (n .kind) receiptKind (rw (ne-eqb (n .kind) raiseKind h) at (formed-fields n ok .kind))
 
   pub entry-low : formed n ≡ true → entryOf n < entries
-  unfolding formed
-  entry-low ok =
-      let kind = and-both (eqb (n .kind) raiseKind || eqb (n .kind) receiptKind) _ ok in
-      let minute = and-both (not (eqb (n .minute) 0)) _ (kind .1) in
-      let symbol = and-both (ltb (n .symbol) access) _ (minute .1) in
-      ltb-true _ _ (entry-test _ _ _ ∙ symbol .1)
+  entry-low ok = ltb-true _ _ (entry-test _ _ _ ∙ formed-fields n ok .entry)
 
 -- bytes that say a note in order
 pub note-whole : (b : List ℕ) → noteOk b ≡ true → (length b ≡ noteLength) × (formed (noteFrom b) ≡ true)
@@ -131,7 +126,7 @@ module _ (x : Site) (b : List ℕ) (room kind : ℕ) where
           other-session n = well-formed ∙ first-holds _ _ _ (ap not (and-true _ _ live ∙ ne-eqb _ _ n))
 
           module _ (same : said .session ≡ x .session) where
-            this-session : firstOf (noteCases x b room) kind ≡ firstOf ((28 if eqb (said .kind) receiptKind && ltb (minuteAt x (entryOf said)) (said .minute)) ∷ []) kind
+            pub this-session : firstOf (noteCases x b room) kind ≡ firstOf ((28 if eqb (said .kind) receiptKind && ltb (minuteAt x (entryOf said)) (said .minute)) ∷ []) kind
             this-session = well-formed ∙ first-fails _ _ _ (ap not (and-true _ _ live ∙ eq-eqb _ _ same))
 
             pub taken-raise : said .kind ≡ raiseKind → firstOf (noteCases x b room) kind ≡ gives kind
@@ -147,9 +142,9 @@ module _ (x : Site) (b : List ℕ) (room kind : ℕ) where
                   this-session ∙ first-fails _ _ _ (ap (λ t. eqb (said .kind) receiptKind && t) low ∙ and-false (eqb (said .kind) receiptKind)) ∙ first-none _
 
   -- a note that is taken has room for its receipt, and is in order
-  pub note-taken : {n : ℕ} → firstOf (noteCases x b room) kind ≡ gives n → (noteLength ≤ room) × (length b ≡ noteLength) × (formed (noteFrom b) ≡ true)
+  pub taken-whole : {n : ℕ} → firstOf (noteCases x b room) kind ≡ gives n → (noteLength ≤ room) × (length b ≡ noteLength) × (formed (noteFrom b) ≡ true)
   unfolding noteCases
-  note-taken e =
+  taken-whole e =
       let first = first-passed _ _ _ e in
       let whole = note-whole b (not-false _ (first-passed _ _ _ (first .1) .0)) in
       (ltb-false _ _ (first .0), whole .0, whole .1)
