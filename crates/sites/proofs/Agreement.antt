@@ -1,16 +1,14 @@
 -- What is proved of two sites: demand 3, of the functions' own results and down to the notes' bytes.
 use mathlib.Core.Path.{_≡_, refl, sym, ap, _∙_, subst}
-use mathlib.Core.Bool.{true, false}
+use mathlib.Core.Bool.{true}
 use mathlib.Core.List.{List, List·Memᴰ, Memᴰ·map}
 use Prim.Native.Nat.{ℕ, _≤_}
 use native.Mathlib.Omega.{arith}
 use lib.ListN.{length}
 use Rattle.wac.specs.Limits.{keys, delegate, endPlace}
 use Rattle.rewriting.specs.Weighing.{minutes}
-use Rattle.rewriting.specs.Rewriting.{Decides}
 use Rattle.rewriting.specs.Entries.{Lawful}
 use Rattle.rewriting.specs.Passes.{Table, bound}
-use Rattle.rewriting.specs.Tables.{Last}
 use Rattle.rewriting.proofs.Order.{minutes-by-weakest}
 use Rattle.rewriting.proofs.Answers.{answer-decides, decides-unique}
 use Rattle.rewriting.proofs.LastTable.{last-answer}
@@ -18,11 +16,10 @@ use Rattle.rewriting.proofs.Bound.{last-exists}
 use Rattle.rewriting.proofs.Together.{together-lawful, together-weighty}
 use Rattle.decision.specs.Usable.{rulesOf}
 use Rattle.decision.specs.Table.{tableOf}
-use Rattle.decision.specs.Question.{asked, Ready}
+use Rattle.decision.specs.Question.{asked}
 use Rattle.decision.specs.declared.request.Request.{Request}
 use Rattle.decision.proofs.AskLaws.{admitted-ready}
 use Rattle.decision.proofs.QuestionLaws.{rules-weighty}
-use Rattle.notes.specs.Notes as rules
 use Rattle.notes.proofs.Main.{notes-safe, notes-agree, notes-stay, notes-rest, notes-accepted}
 use Rattle.sites.specs.Notes.{noteLength}
 use Rattle.sites.specs.Site.{Takes, restful, showing}
@@ -32,7 +29,7 @@ use Rattle.sites.specs.declared.site.Site.{Site}
 use Rattle.sites.specs.declared.site.NoteRefused.{NoteRefused}
 use Rattle.sites.specs.declared.site.Taken.the-variants as takens
 use Rattle.sites.specs.declared.site.Taking.{Taking}
-use Rattle.sites.proofs.Ledgers.{ledger, noteOf, Standing, AllHonest, follows}
+use Rattle.sites.proofs.Ledgers.{ledger, noteOf, Standing, follows}
 use Rattle.sites.proofs.Sending.{rest-tables, tables-rest}
 use Rattle.sites.proofs.Following.{InOrder, begun-order, Followed, followed, follow-steps, system}
 use Rattle.sites.proofs.Exchanging.{exchanged}
@@ -117,6 +114,10 @@ module _ {f g : List ℕ} {q : Request} {session : ℕ} {x : System} (r : Reache
   first-accepts b l l′ t why m room takes e =
       let k = follows (r .word) (state .a-stands) (state .b-honest b m) l room (t .answer) (takes .answer) (takes .site) (takes .bytes) in
       notes-accepted (f-order .lawful) (g-order .lawful) (state .reached) .0 (noteOf b) (Memᴰ·map noteOf m) (k .refused why e)
+
+-- with 16 keys the bound is 2,576
+pub bound-is : bound keys ≡ 2576
+bound-is = refl
 
 -- What comes after a state reached is reached,
 reached-on : {f g : List ℕ} {q : Request} {session : ℕ} {x y : System} → Reached f g q session x → Steps session x y → Reached f g q session y

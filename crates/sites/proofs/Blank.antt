@@ -1,5 +1,5 @@
 -- The site of a refused opening never rests and shows nothing granted, and neither work nor notes change it.
-use mathlib.Core.Path.{_≡_, refl, sym, ap, _∙_}
+use mathlib.Core.Path.{_≡_, refl, sym, _∙_}
 use mathlib.Core.Bool.{false, not}
 use mathlib.Core.List.{List, [], _++_}
 use Prim.Native.Nat.{ℕ, zero, suc}
@@ -17,7 +17,6 @@ use Rattle.decision.specs.Question.{requestCases, settleCases, Settles}
 use Rattle.sites.specs.Notes.{noteFrom}
 use Rattle.sites.specs.Site.{blankSite, Works, Takes, restful, showing}
 use Rattle.sites.specs.declared.site.Site.{Site}
-use Rattle.sites.specs.declared.site.Showing.{Showing}
 use Rattle.sites.specs.declared.site.Taking.{Taking}
 use Rattle.sites.proofs.Following.{refused-stays, foreign-refused}
 

@@ -1,15 +1,13 @@
 -- Full exchanges of two sites are full exchanges of the rules on their tables.
 use mathlib.Core.Path.{_≡_, refl, sym, ap, _∙_, subst}
-use mathlib.Core.Logic.{_⊎_, inl, inr, ⊎-elim, by-cases}
-use mathlib.Core.List.{List, [], _∷_, map, List·Memᴰ, List·Memᴰ·head, List·Memᴰ·tail, List·Memᴰ·not-nil, List·Memᴰ·cases-cons, Memᴰ·map}
-use Prim.Native.Nat.{ℕ, zero, suc, _+_, _≤_, _<_}
+use mathlib.Core.Logic.{_⊎_, ⊎-elim, by-cases}
+use mathlib.Core.List.{List, _∷_, map, List·Memᴰ, List·Memᴰ·head, List·Memᴰ·tail, List·Memᴰ·not-nil, List·Memᴰ·cases-cons, Memᴰ·map}
+use Prim.Native.Nat.{ℕ, _≤_, _<_}
 use native.Mathlib.Omega.{arith}
 use native.Mathlib.Decide.{ℕ-discrete, decLt}
-use lib.ListN.{length, take}
 use Rattle.wac.specs.Limits.{keys, entries, withoutEnd}
-use Rattle.rewriting.specs.Entries.{Entry}
 use Rattle.decision.specs.Usable.{rulesOf}
-use Rattle.decision.specs.Table.{number, keyOf, symbolOf, arrivalOf}
+use Rattle.decision.specs.Table.{number}
 use Rattle.decision.specs.Question.{asked}
 use Rattle.decision.specs.declared.request.Request.{Request}
 use Rattle.decision.proofs.TableLaws.{entry-of, is-entry, number-low, entry-back, key-back, symbol-back, arrival-back}
@@ -18,9 +16,8 @@ use Rattle.notes.specs.Line as line
 use Rattle.notes.specs.Exchange as exchange
 use Rattle.notes.proofs.Running.{Comes, comes-swap, comes-half}
 use Rattle.notes.proofs.Main.{due-formed}
-use Rattle.sites.specs.Notes.{noteLength, noteBytes}
+use Rattle.sites.specs.Notes.{noteBytes}
 use Rattle.sites.specs.Site.{DueAt, raiseOf}
-use Rattle.sites.specs.Line.{receiptIn}
 use Rattle.sites.specs.Exchange.{SendsAll, TakesAll, Half, Full, Exchanges}
 use Rattle.sites.specs.declared.site.Site.{Site}
 use Rattle.sites.proofs.Ledgers.{ledger, noteOf, Standing, Honest, AllHonest, honest-more, site-works, follows}

@@ -1,30 +1,28 @@
 -- Two sites on the line do what the note rules say of their tables, so what is proved of the rules holds of them.
 use mathlib.Core.Path.{_≡_, refl, sym, ap, _∙_, subst}
-use mathlib.Core.Bool.{Bool, true, false, not, _&&_, true≢false}
+use mathlib.Core.Bool.{Bool, true, false, not, _&&_}
 use mathlib.Core.Logic.{_⊎_, inl, inr, ⊎-elim, by-cases}
 use mathlib.Core.List.{List, [], _∷_, _++_, map, List·Memᴰ, List·Memᴰ·not-nil, Memᴰ·map}
-use Prim.Native.Nat.{ℕ, _≤_, _<_, min}
+use Prim.Native.Nat.{ℕ, _≤_, min}
 use native.Mathlib.Omega.{arith}
-use native.Mathlib.Decide.{ℕ-discrete, decLt}
-use borrow.Author.Tests.{eqb-true, ne-eqb, lt-ltb, le-ltb}
+use native.Mathlib.Decide.{decLt}
+use borrow.Author.Tests.{ne-eqb, le-ltb}
 use lib.Dec.{ltb, eqb}
 use lib.ListN.{length, take, drop, replicate}
 use lib.Seq.{take-at, take-all}
-use Rattle.wac.specs.Limits.{keys, entries, delegate, withoutEnd, largestFile}
+use Rattle.wac.specs.Limits.{entries, withoutEnd, largestFile}
 use Rattle.wac.specs.Answers.{gives, refuses, firstOf}
-use Rattle.wac.specs.Bytes.{AreBytes}
-use Rattle.wac.specs.File.{countOf, fileCases, placeOf}
+use Rattle.wac.specs.File.{countOf, fileCases}
 use Rattle.wac.proofs.Cases.{first-holds, first-fails, gives-not-refuses}
 use Rattle.wac.proofs.FileLaws.{file-kept}
 use Rattle.rewriting.specs.Weighing.{minutes}
 use Rattle.rewriting.specs.Rewriting.{Rules, Question}
-use Rattle.rewriting.specs.Entries.{Entry, Lawful}
+use Rattle.rewriting.specs.Entries.{Lawful}
 use Rattle.rewriting.specs.Passes.{start}
 use Rattle.rewriting.specs.Tables.{Held}
 use Rattle.rewriting.proofs.Sound.{sound-held, start-sound}
-use Rattle.decision.specs.Lens.{questionBy}
 use Rattle.decision.specs.Usable.{rulesOf}
-use Rattle.decision.specs.Table.{keyOf, symbolOf, arrivalOf, tableOf, rowOf}
+use Rattle.decision.specs.Table.{keyOf, symbolOf, arrivalOf, rowOf}
 use Rattle.decision.specs.Engine.{Within}
 use Rattle.decision.specs.Question.{requestCases, Ready, asked}
 use Rattle.decision.specs.declared.request.Request.{Request}
@@ -41,17 +39,16 @@ use Rattle.notes.proofs.Running.{steps-swap}
 use Rattle.notes.proofs.Main.{due-formed}
 use Rattle.sites.specs.Notes.{noteLength, noteFrom, noteOk}
 use Rattle.sites.specs.Site.{openedSite, Opens, fileOf, takenAs, noteCases, siteAfter, bytesAfter, Takes}
-use Rattle.sites.specs.Line.{Party, receiptIn, Stray, Act, System, Step, Steps, Begun, Reached}
+use Rattle.sites.specs.Line.{Party, receiptIn, Act, System, Step, Steps, Begun, Reached}
 use Rattle.sites.specs.declared.note.Note.{Note}
 use Rattle.sites.specs.declared.site.Site.{Site}
 use Rattle.sites.specs.declared.site.Opening.{Opening}
-use Rattle.sites.specs.declared.site.Opened.{Opened}
 use Rattle.sites.specs.declared.site.Opened.the-variants as opens
 use Rattle.sites.specs.declared.site.Taken.{Taken}
 use Rattle.sites.specs.declared.site.Taken.the-variants as takens
 use Rattle.sites.specs.declared.site.Taking.{Taking}
 use Rattle.sites.proofs.SiteLaws.{few-bytes}
-use Rattle.sites.proofs.Ledgers.{ledger, noteOf, Standing, Honest, AllHonest, honest-more, site-works, Follows, follows}
+use Rattle.sites.proofs.Ledgers.{ledger, noteOf, Standing, Honest, AllHonest, honest-more, site-works, follows}
 use Rattle.sites.proofs.Sending.{due-tables, sent-note-of, Sendable, raise-honest, raise-says}
 
 -- a site and its notes, as the rules see them

@@ -1,50 +1,45 @@
 -- What the functions make of a site is what the note rules make of its tables: opening, working, taking a note, writing one, rest.
 use mathlib.Core.Path.{_≡_, refl, sym, ap, _∙_, subst, subst₂, fun-ext}
-use mathlib.Core.Bool.{Bool, true, false, cond, not, _&&_, _||_, true≢false}
-use mathlib.Core.Logic.{_⊎_, inl, inr, ⊎-elim, by-cases}
+use mathlib.Core.Bool.{Bool, true, false, cond, _&&_, true≢false}
+use mathlib.Core.Logic.{_⊎_, ⊎-elim}
 use mathlib.Core.List.{List, [], _∷_, _++_, map, List·Memᴰ, List·Memᴰ·cases-cons}
-use Prim.Native.Nat.{ℕ, _≤_, _<_, min, max}
+use Prim.Native.Nat.{ℕ, _≤_, _<_, max}
 use native.Mathlib.Omega.{arith}
-use native.Mathlib.Decide.{ℕ-discrete, decLt}
-use borrow.Author.Tests.{eqb-true, eq-eqb, ne-eqb, ltb-true, ltb-false, lt-ltb, le-ltb, le-leb, lt-leb, leb-true}
+use borrow.Author.Tests.{eqb-true, eq-eqb, ne-eqb, ltb-true, ltb-false, le-ltb, le-leb, lt-leb}
 use lib.Dec.{leb, ltb, eqb}
-use lib.ListN.{length, getD, take, drop, set, replicate, length-set}
-use lib.Seq.{sets}
-use Rattle.wac.specs.Limits.{keys, entries, access, delegate, endPlace, withoutEnd, largestFile}
-use Rattle.wac.specs.Answers.{Answer, gives, refuses, Case, _if_, firstOf}
+use lib.ListN.{length, getD, set, length-set}
+use Rattle.wac.specs.Limits.{entries, withoutEnd}
+use Rattle.wac.specs.Answers.{gives, refuses, _if_, firstOf}
 use Rattle.wac.specs.File.{countOf, fileCases}
-use Rattle.wac.proofs.Cases.{first-none, first-holds, first-fails, first-passed, first-given, gives-injective, gives-not-refuses}
-use Rattle.wac.proofs.Tests.{and-both, and-true, false-and, and-false, allBelow-true, allBelow-at}
+use Rattle.wac.proofs.Cases.{first-none, first-fails, first-passed, first-given, gives-injective, gives-not-refuses}
+use Rattle.wac.proofs.Tests.{and-both, and-true}
 use Rattle.rewriting.specs.Weighing.{minutes}
-use Rattle.rewriting.specs.Rewriting.{Rules, Question}
-use Rattle.rewriting.specs.Entries.{Entry, Lawful}
-use Rattle.rewriting.specs.Passes.{Table, start, repeated}
+use Rattle.rewriting.specs.Entries.{Lawful}
+use Rattle.rewriting.specs.Passes.{repeated}
 use Rattle.rewriting.specs.Tables.{Held}
 use Rattle.rewriting.proofs.Tests.{by-test}
 use Rattle.rewriting.proofs.Held.{repeated-held}
 use Rattle.decision.specs.Lens.{questionBy}
 use Rattle.decision.specs.Usable.{rulesOf}
-use Rattle.decision.specs.Table.{isEntry, number, entryNumber, keyOf, symbolOf, arrivalOf, tableOf, rowOf}
+use Rattle.decision.specs.Table.{isEntry, number, keyOf, symbolOf, arrivalOf, tableOf}
 use Rattle.decision.specs.Engine.{Within, held, SettledFrom}
 use Rattle.decision.specs.Question.{requestCases, refusedAs, settleCases, Settles, asked}
 use Rattle.decision.specs.declared.request.Request.{Request}
 use Rattle.decision.specs.declared.lens.Lens.the-variants.{Minutes}
 use Rattle.decision.specs.declared.question.Refused.{Refused}
-use Rattle.decision.specs.declared.question.Settling.{Settling}
 use Rattle.decision.specs.declared.question.Settling.the-variants as settlings
-use Rattle.decision.proofs.TableLaws.{entry-of, is-entry, number-low, entry-back, number-back, set-here, set-there, held-at, list-held, held-row, within-row}
+use Rattle.decision.proofs.TableLaws.{entry-back, number-back, set-here, set-there, list-held, held-row, within-row}
 use Rattle.decision.proofs.PassingLaws.{within-set}
 use Rattle.notes.specs.Notes as rules
 use Rattle.notes.specs.Line as line
 use Rattle.sites.specs.Notes.{noteLength, raiseKind, receiptKind, noteFrom, noteBytes, formed, noteOk}
-use Rattle.sites.specs.Site.{fileOf, workedSite, Works, minuteAt, receiptedAt, raisedSite, receiptedSite, entryOf, receiptOf, takenAs, noteCases, siteAfter, bytesAfter, Takes, DueAt, NextDue, raiseOf, Sends, restful}
+use Rattle.sites.specs.Site.{fileOf, workedSite, Works, minuteAt, raisedSite, receiptedSite, entryOf, receiptOf, takenAs, noteCases, siteAfter, bytesAfter}
 use Rattle.sites.specs.Line.{receiptIn}
 use Rattle.sites.specs.declared.note.Note.{Note}
 use Rattle.sites.specs.declared.site.Site.{Site}
 use Rattle.sites.specs.declared.site.NoteRefused.{NoteRefused}
 use Rattle.sites.specs.declared.site.Taken.{Taken}
 use Rattle.sites.specs.declared.site.Taken.the-variants as takens
-use Rattle.sites.specs.declared.site.Taking.{Taking}
 use Rattle.sites.proofs.SiteLaws.{note-whole, this-session}
 use Rattle.sites.proofs.NoteLaws.{note-read-back, note-taken, Fields, formed-fields, fields-formed}
 

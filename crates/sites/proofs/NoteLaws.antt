@@ -1,11 +1,11 @@
 -- A note's bytes say the note, and lent bytes have it in the first 12 places.
 use mathlib.Core.Path.{_≡_, refl, sym, ap, _∙_}
-use mathlib.Core.Bool.{Bool, true, false, not, _&&_, _||_}
-use mathlib.Core.List.{List, [], _∷_, _++_}
+use mathlib.Core.Bool.{true, false, not, _||_}
+use mathlib.Core.List.{List}
 use Prim.Native.Nat.{ℕ, _≤_, _<_}
 use native.Mathlib.Omega.{arith}
-use borrow.Author.Tests.{eqb-true, eq-eqb, ne-eqb, lt-ltb, ltb-true}
-use lib.Dec.{ltb, eqb}
+use borrow.Author.Tests.{eq-eqb, ne-eqb, lt-ltb, ltb-true}
+use lib.Dec.{eqb}
 use lib.ListN.{length, take, drop}
 use lib.Seq.{sets, sets-eq, take-at, take-all}
 use Rattle.wac.specs.Limits.{access, withoutEnd}
@@ -13,9 +13,9 @@ use Rattle.wac.specs.Bytes.{AreBytes}
 use Rattle.wac.specs.File.{listed}
 use Rattle.wac.proofs.RecordLaws.{word-read, word-written}
 use Rattle.wac.proofs.RoundTrip.{take-listed}
-use Rattle.wac.proofs.Tests.{and-both, and-true, not-not}
+use Rattle.wac.proofs.Tests.{and-both}
 use Rattle.decision.specs.Table.{isEntry}
-use Rattle.sites.specs.Notes.{noteLength, raiseKind, receiptKind, noteFrom, noteBytes, formed, noteOk}
+use Rattle.sites.specs.Notes.{noteLength, raiseKind, receiptKind, noteFrom, noteBytes, formed}
 use Rattle.sites.specs.declared.note.Note.{Note}
 
 -- a note that is written and read is itself

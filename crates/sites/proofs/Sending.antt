@@ -1,32 +1,27 @@
 -- The notes that a site writes are those of the entries that wait, and a site rests if its tables do.
 use mathlib.Core.Path.{_≡_, refl, sym, ap, _∙_, subst}
-use mathlib.Core.Bool.{Bool, true, false, _&&_}
-use mathlib.Core.Logic.{_⊎_, inl, inr, ⊎-elim, by-cases}
-use mathlib.Core.List.{List, [], _∷_, map, List·Memᴰ, List·Memᴰ·head, List·Memᴰ·tail, List·Memᴰ·not-nil, List·Memᴰ·cases-cons}
-use Prim.Native.Nat.{ℕ, _+_, _≤_, _<_}
+use mathlib.Core.Bool.{true}
+use mathlib.Core.List.{List}
+use Prim.Native.Nat.{ℕ, _≤_, _<_}
 use native.Mathlib.Omega.{arith}
-use native.Mathlib.Decide.{ℕ-discrete, decLt}
 use borrow.Author.Tests.{le-leb, leb-true}
 use lib.Dec.{leb}
-use lib.ListN.{length, getD, take}
-use lib.Seq.{sets}
-use Rattle.wac.specs.Limits.{keys, entries, access, delegate, withoutEnd}
+use lib.ListN.{take}
+use Rattle.wac.specs.Limits.{keys, entries, delegate, withoutEnd}
 use Rattle.wac.proofs.Tests.{and-both, allBelow-true, allBelow-at}
 use Rattle.rewriting.specs.Weighing.{minutes}
 use Rattle.rewriting.specs.Entries.{Entry}
-use Rattle.decision.specs.Table.{isEntry, number, keyOf, symbolOf, arrivalOf, tableOf}
+use Rattle.decision.specs.Table.{number, keyOf, symbolOf, arrivalOf}
 use Rattle.decision.specs.declared.request.Request.{Request}
-use Rattle.decision.proofs.TableLaws.{entry-of, is-entry, number-low, entry-back, number-back, key-back, symbol-back, arrival-back}
+use Rattle.decision.proofs.TableLaws.{entry-of, is-entry, number-low, entry-back}
 use Rattle.notes.specs.Notes as rules
-use Rattle.notes.specs.Exchange as exchange
-use Rattle.sites.specs.Notes.{noteLength, noteFrom, noteBytes}
+use Rattle.sites.specs.Notes.{noteLength, noteBytes}
 use Rattle.sites.specs.Site.{minuteAt, receiptedAt, DueAt, NextDue, raiseOf, Sends, restful}
-use Rattle.sites.specs.Exchange.{SendsAll}
 use Rattle.sites.specs.declared.site.Site.{Site}
 use Rattle.sites.specs.declared.site.Sending.{Sending}
 use Rattle.sites.specs.declared.site.Sending.the-variants as sendings
 use Rattle.sites.proofs.NoteLaws.{note-taken, Fields}
-use Rattle.sites.proofs.Ledgers.{ledger, noteOf, saidBy, Standing, Honest, AllHonest, honest-more, written-says, written-honest, table-at, table-number}
+use Rattle.sites.proofs.Ledgers.{ledger, noteOf, saidBy, Standing, Honest, written-says, written-honest, table-at, table-number}
 
 -- a site rests exactly if its tables do
 module _ (x : Site) where

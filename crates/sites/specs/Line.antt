@@ -4,7 +4,7 @@ use mathlib.Core.Path.{_≡_}
 use mathlib.Core.Bool.{true}
 use mathlib.Core.List.{List, [], _∷_, List·Memᴰ}
 use Prim.Native.Nat.{ℕ, _≤_}
-use lib.ListN.{length, take}
+use lib.ListN.{take}
 use Rattle.wac.specs.Bytes.{AreBytes}
 use Rattle.wac.specs.Limits.{withoutEnd}
 use Rattle.rewriting.specs.Rewriting.{Rules, Decides}
