@@ -80,6 +80,10 @@ module _ {f g : List ℕ} {q : Request} {session : ℕ} {x : System} (r : Reache
       (together-weighty minutes (rulesOf f q) (rulesOf g q) (rules-weighty f q some) (rules-weighty g q some))
       (q .owner) (last-answer both (last-exists both .1) (q .owner))
 
+  -- so there is a joint minute.
+  pub joint-exists : (m : ℕ) × JointMinute f g q m
+  joint-exists = (joint (q .owner) delegate endPlace, joint-minute)
+
   -- 1. At no moment does either site show a later minute than demand 2 gives over both files together.
   pub never-later : (m : ℕ) → JointMinute f g q m → (showing (x .a .site) .minute ≤ m) × (showing (x .b .site) .minute ≤ m)
   never-later m decides =
