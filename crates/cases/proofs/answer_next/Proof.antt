@@ -5,11 +5,11 @@ use lib.ListN.{length-take}
 use Rattle.cases.proofs.answer_next.Statement.{statement}
 use Rattle.cases.proofs.answer_next.Tie as tie
 
-slice-aggregate-read-full : tie.Need-slice-aggregate-read-full
-slice-aggregate-read-full c = search needs
+slice-aggregate-fills : tie.Need-slice-aggregate-fills
+slice-aggregate-fills c = search needs
 
-read-full-requires : tie.Need-read-full-requires
-read-full-requires c κs = search needs
+fills-requires : tie.Need-fills-requires
+fills-requires c κs = search needs
 
 returns : tie.Need-returns
 returns c = search needs
@@ -42,8 +42,8 @@ pub answer-next-spec : {M : Type 1} → statement M
 answer-next-spec =
     tie.close
     (tie.spec
-    slice-aggregate-read-full
-    read-full-requires
+    slice-aggregate-fills
+    fills-requires
     returns
     array-read-length-of
     array-read-length-of-2
