@@ -61,7 +61,7 @@ module _ {K asker : ℕ} {B R T : Rules} (both : Both (byMinutes K asker) B R T)
   rest-acts : {p p′ q : Party} → Act Q R (q .wrote) p p′ → Side Q B R p q → Side Q B T q p → p .ledger .minute ≡ q .ledger .minute →
       Last Q B (p .ledger .minute) → Rest K (p .ledger) → Rest K (p′ .ledger)
   rest-acts (act-work l w) S O same last rests = record {
-    quiet = w .idle;
+    quiet = (let already = rests .quiet in cc (w .idle));
     all = λ k s a e. rw (w .receipted) (omega (
       arith,
       at-most-le _ _ (sound-below (both .first .whole) last (worked (both .first) w (S .sound) .sound) k s a),

@@ -7,7 +7,8 @@ use native.Mathlib.Omega.{arith}
 use lib.Dec.{leb}
 use borrow.Author.Tests.{leb-true, leb-false, le-leb}
 use Rattle.rewriting.specs.Passes.{Table}
-use Rattle.notes.specs.Notes.{Note, raise, receipt, Ledger, Taken, checked, take}
+use Rattle.rewriting.proofs.Tests.{both-true}
+use Rattle.notes.specs.Notes.{Note, raise, receipt, Ledger, raised, Taken, checked, take}
 use Rattle.notes.proofs.Putting.{put-same, put-grows, put-order}
 
 -- The entry holds the note's minute.
@@ -37,7 +38,11 @@ pub record Moves (l l′ : Ledger) : Type 0 where
   pub receipts : (x y z : ℕ) → l .receipted x y z ≤ l′ .receipted x y z
   pub settles : (x y z : ℕ) → l .minute x y z ≤ l .receipted x y z → l′ .minute x y z ≤ l′ .receipted x y z
 
--- A note whose minute the entry holds does not wake a site;
+-- A site that need not work after a raise held its minute, and need not work before;
+pub raise-idle : (k s a m : ℕ) (l : Ledger) → raised k s a m l .idle ≡ true → (m ≤ l .minute k s a) × (l .idle ≡ true)
+raise-idle k s a m l e = let both = both-true {a = leb m (l .minute k s a)} e in (leb-true _ _ (both .0), both .1)
+
+-- a note whose minute the entry holds does not wake it,
 pub take-quiet : (n : Note) (l : Ledger) → Holds (l .minute) n → l .idle ≡ true → take n l .ledger .idle ≡ true
 unfolding take
 take-quiet (raise k s a m) l h e = rw (le-leb m (l .minute k s a) h, e)
@@ -46,7 +51,7 @@ take-quiet (receipt k s a m) l h e = rw (receipt-taken k s a m l h) e
 moves-stay : (l : Ledger) → Moves l l
 moves-stay l = record { grows = λ x y z. le-refl _; receipts = λ x y z. le-refl _; settles = λ x y z h. h }
 
--- every note moves it on.
+-- and every note moves it on.
 pub take-moves : (n : Note) (l : Ledger) → Moves l (take n l .ledger)
 unfolding take
 take-moves (raise k s a m) l = record {
