@@ -11,7 +11,7 @@ use Rattle.rewriting.specs.Together.{together}
 use Rattle.rewriting.proofs.Sound.{start-sound}
 use Rattle.rewriting.proofs.Together.{first-among, second-among, together-lawful, pass-together}
 use Rattle.notes.specs.Notes.{byMinutes}
-use Rattle.notes.specs.Line.{System, Step, step-a, step-b, Steps, none, more, Reached, fresh}
+use Rattle.notes.specs.Line.{System, swap, Step, step-a, step-b, Steps, none, more, Reached, fresh}
 use Rattle.notes.proofs.Sides.{Part, Side, side-other, side-acts, act-grows}
 
 -- The certificates R and T are parts of B, and what is above a pass of each is above a pass of B.
@@ -36,9 +36,6 @@ pub record Good (Q : Question) (B R T : Rules) (x : System) : Type 0 where
   pub side-b : Side Q B T (x .b) (x .a)
 
 -- The two sites are alike.
-abbrev pub swap : System → System
-swap x = record { a = x .b; b = x .a }
-
 pub good-swap : {Q : Question} {B R T : Rules} {x : System} → Good Q B R T x → Good Q B T R (swap x)
 good-swap g = record { side-a = g .side-b; side-b = g .side-a }
 

@@ -1,62 +1,69 @@
--- What one half of a full exchange does.
+-- What a half does: the other site comes to hold all that the sender worked out, and a sender that holds the last table comes to rest.
 use mathlib.Core.Path.{_≡_}
 use mathlib.Core.Bool.{true}
-use mathlib.Core.Logic.{by-cases}
-use mathlib.Core.List.{List}
-use Prim.Native.Nat.{ℕ}
-use native.Mathlib.Nat.{le-refl, le-trans}
-use native.Mathlib.Decide.{decLe}
-use native.Mathlib.Omega.{arith}
+use Prim.Native.Nat.{ℕ, _≤_}
+use native.Mathlib.Nat.{le-trans}
+use Rattle.rewriting.specs.Weighing.{minutes}
 use Rattle.rewriting.specs.Rewriting.{Rules, Question}
-use Rattle.notes.specs.Notes.{Note, raise, receipt, Ledger}
-use Rattle.notes.specs.Exchange.{takes, replies, SentBy, Sends, Half}
-use Rattle.notes.proofs.Minutes.{Under}
-use Rattle.notes.proofs.Taking.{Holds, Moves, Calm, takes-moves, takes-calm, takes-raise, takes-receipt, replies-all, replies-each}
+use Rattle.rewriting.specs.Passes.{Table}
+use Rattle.rewriting.specs.Tables.{Last}
+use Rattle.rewriting.proofs.LastTable.{sound-below}
+use Rattle.notes.specs.Notes.{byMinutes, Note, raise, receipt, Rest}
+use Rattle.notes.specs.Line.{Party, act-work, act-send, act-take, System, step-a, step-b, Steps, none, more}
+use Rattle.notes.specs.Exchange.{Half}
+use Rattle.notes.proofs.Minutes.{Under, at-most-le}
+use Rattle.notes.proofs.Taking.{Holds, take-quiet}
+use Rattle.notes.proofs.Sides.{Honest, Side, Worked, worked}
+use Rattle.notes.proofs.Good.{Both, Good, good-steps}
+use Rattle.notes.proofs.Running.{half-worked, half-steps}
+use Rattle.notes.proofs.Growing.{steps-grew, works-grew}
 
--- One half, where the sender holds w after working and ends as a, and the taker goes from b to b′: nothing of the sender's waits to be
--- sent, and the taker holds all that the sender holds.
-pub record HalfDone (K : ℕ) (w b a b′ : Ledger) : Type 0 where
-  pub minute : a .minute ≡ w .minute
-  pub quiet : a .idle ≡ true
-  pub all : Under K (w .minute) (a .receipted)
-  pub told : Under K (w .minute) (b′ .minute)
-  pub moved : Moves b b′
-  pub calm : Under K (w .minute) (b .minute) → Calm b b′
+module _ {K asker : ℕ} {B R T : Rules} (both : Both (byMinutes K asker) B R T) {J : Table} (last : Last (byMinutes K asker) B J) where
+  abbrev Q : Question
+  Q = byMinutes K asker
 
-module _ {K : ℕ} {w : Ledger} (b : Ledger) {ns : List Note} (sent : Sends K w ns) (idle : w .idle ≡ true) (known : Under K (w .receipted) (b .minute)) where
-  -- The receipts are for minutes that the sender holds, so it changes no minute.
-  back-calm : Calm w (takes (replies ns b) w)
-  back-calm = takes-calm (replies ns b) w
-      (replies-each (Holds (w .minute)) ns b (λ k s a m j. omega (arith, sent .each (raise k s a m) j .2)))
+  -- No sound table is above the last.
+  under-last : {S : Rules} {p q : Party} → Side Q B S p q → (k s a : ℕ) → p .ledger .minute k s a ≤ J k s a
+  under-last S k s a = at-most-le _ _ (sound-below (both .first .whole) last (S .sound) k s a)
 
-  -- Every entry was receipted or is sent and receipted now.
-  back-all : Under K (w .minute) (takes (replies ns b) w .receipted)
-  back-all k s a e = by-cases (decLe (w .minute k s a) (w .receipted k s a))
-      (λ h. le-trans h (takes-moves (replies ns b) w .receipts k s a))
-      (λ h. takes-receipt w (le-refl _) (replies-all b (sent .all k s a e (omega arith))))
+  -- A site that holds the last table holds the minute of every note that the other wrote,
+  holds-all : {p q : Party} → Side Q B T q p → Under K J (p .ledger .minute) → (n : Note) → Honest Q B (q .ledger .minute) (p .ledger .minute) n →
+      Holds (p .ledger .minute) n
+  holds-all O full (raise k s a m) h = le-trans (h .held) (le-trans (under-last O k s a) (full k s a (h .entry)))
+  holds-all O full (receipt k s a m) h = h .1
 
-  there-told : Under K (w .minute) (takes ns b .minute)
-  there-told k s a e = by-cases (decLe (w .minute k s a) (w .receipted k s a))
-      (λ h. le-trans h (le-trans (known k s a e) (takes-moves ns b .grows k s a)))
-      (λ h. takes-raise b (sent .all k s a e (omega arith)))
+  -- so once it has worked it has not to work again.
+  stays-idle : {x y : System} → Good Q B R T x → Under K J (x .a .ledger .minute) → x .a .ledger .idle ≡ true → Steps Q R T x y →
+      y .a .ledger .idle ≡ true
+  stays-idle g full idle none = idle
+  stays-idle g full idle (more r (step-a (act-work l w))) = w .idle
+  stays-idle g full idle (more r (step-a (act-send k s a e d))) = stays-idle g full idle r
+  stays-idle g full idle (more {y = y} r (step-a (act-take n j))) =
+      let O = good-steps both r g .side-b in
+      take-quiet n (y .a .ledger)
+      (holds-all O (λ k s a e. le-trans (full k s a e) (steps-grew r .minutes k s a e)) n (O .honest n j)) (stays-idle g full idle r)
+  stays-idle g full idle (more r (step-b c)) = stays-idle g full idle r
 
-  there-calm : Under K (w .minute) (b .minute) → Calm b (takes ns b)
-  there-calm up = takes-calm ns b (λ n j. holds n (sent .each n j))
-    where
-      holds : (n : Note) → SentBy K w n → Holds (b .minute) n
-      holds (raise k s a m) (e, d, q) = omega (arith, up k s a e)
-      holds (receipt k s a m) f = absurd f
+  module _ {x y : System} (g : Good Q B R T x) (h : Half Q R T x y) where
+    pub after : Good Q B R T y
+    after = good-steps both (half-steps h) g
 
-  sends-done : HalfDone K w b (takes (replies ns b) w) (takes ns b)
-  sends-done = record {
-    minute = back-calm .same;
-    quiet = back-calm .quiet idle;
-    all = back-all;
-    told = there-told;
-    moved = takes-moves ns b;
-    calm = there-calm;
-  }
+    -- What working has at least,
+    pub half-passed : Worked Q B R (h .from .a .ledger .minute) (h .worked .minute)
+    half-passed = worked (both .first) (h .work) (good-steps both (h .before) g .side-a .sound)
 
-pub half-done : {Q : Question} {R : Rules} {a b a′ b′ : Ledger} (h : Half Q R a b a′ b′) → Under (Q .keys) (a .receipted) (b .minute) →
-    HalfDone (Q .keys) (h .worked) b a′ b′
-half-done {b = b} h known = rw (h .taken, h .back) (sends-done b (h .sent) (h .works .idle) (rw (h .works .receipted) known))
+    pub half-grew : Under K (x .a .ledger .minute) (h .worked .minute)
+    half-grew k s a e = le-trans (steps-grew (h .before) .minutes k s a e) (works-grew (h .work) .minutes k s a e)
+
+    -- and what the other site holds after the half.
+    pub half-told : Under K (h .worked .minute) (y .b .ledger .minute)
+    half-told k s a e = le-trans (h .all k s a e) (after .side-a .known k s a e)
+
+    -- A half of a site that holds the last table brings it to rest, and it rests from then on.
+    pub half-rest : {z : System} → Under K J (x .a .ledger .minute) → Steps Q R T y z → Rest K (z .a .ledger)
+    half-rest {z} full on = record {
+      quiet = stays-idle after (λ k s a e. le-trans (full k s a e) (steps-grew (half-steps h) .minutes k s a e))
+          (stays-idle (good-steps both (half-worked h) g) (λ k s a e. le-trans (full k s a e) (half-grew k s a e)) (h .work .idle) (h .after)) on;
+      all = λ k s a e. le-trans (under-last (good-steps both on after .side-a) k s a)
+          (le-trans (full k s a e) (le-trans (half-grew k s a e) (le-trans (h .all k s a e) (steps-grew on .receipts k s a e))));
+    }

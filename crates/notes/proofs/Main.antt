@@ -1,6 +1,6 @@
 -- What is proved of two sites, in one place. K is any number of keys, R and T are the two sites' certificates, and J is the last table
 -- of both files together: every entry's best minute over the chains of both.
-use mathlib.Core.Path.{_≡_, refl}
+use mathlib.Core.Path.{_≡_}
 use Prim.Native.Nat.{ℕ, _≤_}
 use Rattle.rewriting.specs.Rewriting.{Rules, Question}
 use Rattle.rewriting.specs.Entries.{Entry, Lawful}
@@ -10,7 +10,7 @@ use Rattle.rewriting.specs.Together.{together}
 use Rattle.rewriting.proofs.LastTable.{sound-below, last-unique}
 use Rattle.rewriting.proofs.Together.{together-lawful}
 use Rattle.rewriting.proofs.Bound.{last-exists}
-use Rattle.notes.specs.Notes.{byMinutes, Note, raise, Ledger, late, take, Due, Rest}
+use Rattle.notes.specs.Notes.{byMinutes, Note, raise, late, take, Due, Rest}
 use Rattle.notes.specs.Line.{In, System, Steps, Reached}
 use Rattle.notes.specs.Exchange.{Exchanges}
 use Rattle.notes.proofs.Minutes.{at-most-le}
@@ -18,13 +18,7 @@ use Rattle.notes.proofs.Sides.{due-named}
 use Rattle.notes.proofs.Good.{both-together, both-swap, Good, good, good-swap}
 use Rattle.notes.proofs.Resting.{rest-last, stay-steps, side-accepted}
 use Rattle.notes.proofs.Formed.{Formed, named-sent, side-formed}
-use Rattle.notes.proofs.Running.{comes-exchanges}
 use Rattle.notes.proofs.Rounds.{exchanges-rest}
-
--- Full exchanges are a run: what holds of every state that the sites can come to holds after them.
-pub exchanges-run : {Q : Question} {R T : Rules} {x : System} {n : ℕ} {a b : Ledger} → Reached Q R T x →
-    Exchanges Q R T (x .a .ledger) (x .b .ledger) n a b → (y : System) × Reached Q R T y × (y .a .ledger ≡ a) × (y .b .ledger ≡ b)
-exchanges-run {x = x} run e = comes-exchanges (x, run, refl, refl) e
 
 module _ {K asker : ℕ} {R T : Rules} (r : Lawful (byMinutes K asker) R) (t : Lawful (byMinutes K asker) T) where
   abbrev Q : Question
@@ -58,10 +52,10 @@ module _ {K asker : ℕ} {R T : Rules} (r : Lawful (byMinutes K asker) R) (t : L
       Rest K (y .a .ledger) × Rest K (y .b .ledger)
   notes-stay run a-rests b-rests on = stay-steps (both-together r t) (always run) on a-rests b-rests
 
-  -- From any state, as many full exchanges as the bound, each begun by either site, bring both to rest.
-  pub notes-rest : {x : System} {a b : Ledger} → Reached Q R T x → (n : ℕ) → bound K ≤ n →
-      Exchanges Q R T (x .a .ledger) (x .b .ledger) n a b → Rest K a × Rest K b
-  notes-rest {x} run n h e = exchanges-rest (both-together r t) (last-exists joint .1) (x, run, refl, refl) h e
+  -- From any state, as many full exchanges as the bound, each begun by either site, bring both to rest, whatever else happens
+  -- before, between and within them.
+  pub notes-rest : {x y : System} → Reached Q R T x → (n : ℕ) → bound K ≤ n → Exchanges Q R T x n y → Rest K (y .a .ledger) × Rest K (y .b .ledger)
+  notes-rest run n h e = exchanges-rest (both-together r t) (last-exists joint .1) (always run) h e
 
   -- No note that one site wrote is ever late at the other.
   pub notes-accepted : {x : System} → Reached Q R T x →

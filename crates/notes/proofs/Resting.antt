@@ -11,7 +11,7 @@ use Rattle.rewriting.proofs.LastTable.{sound-below}
 use Rattle.notes.specs.Notes.{byMinutes, Note, raise, receipt, Ledger, noted, late, take, Rest}
 use Rattle.notes.specs.Line.{In, Party, System, Act, act-work, act-send, act-take, Step, step-a, step-b, Steps, none, more}
 use Rattle.notes.proofs.Minutes.{at-most-le, under-below}
-use Rattle.notes.proofs.Taking.{Holds, receipt-taken, take-moves, take-calm}
+use Rattle.notes.proofs.Taking.{Holds, receipt-taken, take-moves, take-quiet}
 use Rattle.notes.proofs.Sides.{Honest, Side, worked}
 use Rattle.notes.proofs.Good.{Both, both-swap, Good, good-swap, good-steps}
 
@@ -61,7 +61,7 @@ module _ {K asker : ℕ} {B R T : Rules} (both : Both (byMinutes K asker) B R T)
   rest-acts : {p p′ q : Party} → Act Q R (q .wrote) p p′ → Side Q B R p q → Side Q B T q p → p .ledger .minute ≡ q .ledger .minute →
       Last Q B (p .ledger .minute) → Rest K (p .ledger) → Rest K (p′ .ledger)
   rest-acts (act-work l w) S O same last rests = record {
-    quiet = w .idle;
+    quiet = (let already = rests .quiet in cc (w .idle));
     all = λ k s a e. rw (w .receipted) (omega (
       arith,
       at-most-le _ _ (sound-below (both .first .whole) last (worked (both .first) w (S .sound) .sound) k s a),
@@ -70,7 +70,7 @@ module _ {K asker : ℕ} {B R T : Rules} (both : Both (byMinutes K asker) B R T)
   }
   rest-acts (act-send k s a e d) S O same last rests = rests
   rest-acts (act-take {p} n j) S O same last rests = record {
-    quiet = take-calm n (p .ledger) (rw same (honest-held Q B _ _ n (O .honest n j))) .quiet (rests .quiet);
+    quiet = take-quiet n (p .ledger) (rw same (honest-held Q B _ _ n (O .honest n j))) (rests .quiet);
     all = λ k s a e. take-moves n (p .ledger) .settles k s a (rests .all k s a e);
   }
 

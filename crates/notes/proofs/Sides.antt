@@ -6,14 +6,12 @@ use mathlib.Core.List.{List, _∷_, List·Memᴰ·cases-cons}
 use Prim.Native.Nat.{ℕ, suc, _≤_, _<_, max}
 use native.Mathlib.Nat.{le-refl, le-trans}
 use native.Mathlib.Omega.{arith}
-use borrow.Author.Tests.{leb-true}
 use Rattle.rewriting.specs.Weighing.{minutes}
 use Rattle.rewriting.specs.Rewriting.{Rules, Question}
 use Rattle.rewriting.specs.Entries.{Entry, Lawful, Brings}
 use Rattle.rewriting.specs.Passes.{Table, start, pass, repeated}
 use Rattle.rewriting.specs.Tables.{Below, Found, Sound, Closed}
 use Rattle.rewriting.specs.Together.{Among}
-use Rattle.rewriting.proofs.Tests.{both-true}
 use Rattle.rewriting.proofs.Sound.{found-best, sound-held, repeated-sound}
 use Rattle.rewriting.proofs.Held.{stays-still}
 use Rattle.rewriting.proofs.LastTable.{repeated-keeps, still-passed, still-closed}
@@ -21,7 +19,7 @@ use Rattle.notes.specs.Notes.{byMinutes, Note, raise, receipt, Ledger, p
 use Rattle.notes.specs.Line.{In, Party, Act, act-work, act-send, act-take, works, sends, receives}
 use Rattle.notes.proofs.Minutes.{Under, below-under}
 use Rattle.notes.proofs.Putting.{put-holds, put-same, put-grows, put-held, put-under}
-use Rattle.notes.proofs.Taking.{receipt-taken, take-moves}
+use Rattle.notes.proofs.Taking.{receipt-taken, raise-idle, take-moves}
 
 -- The certificates R are a part of B.
 pub record Part (Q : Question) (B R : Rules) : Type 0 where
@@ -146,8 +144,8 @@ module _ {K asker : ℕ} {B R : Rules} (part : Part (byMinutes K asker) B R) whe
       sound = put-sound;
       started = λ x y z e. le-trans (S .started x y z e) (put-grows _ _ _ _ _ x y z);
       shut = λ e.
-          let l = both-true e in
-          rw (put-held t k s a m (leb-true m (t k s a) (l .0))) (S .shut (l .1));
+          let idle = raise-idle k s a m (p .ledger) e in
+          rw (put-held t k s a m (idle .0)) (S .shut (idle .1));
       known = put-under (p .ledger .receipted) k s a _ (q .ledger .minute) (S .known) (h .held);
       seen = λ x y z e. le-trans (S .seen x y z e) (put-grows _ _ _ _ _ x y z);
       honest = each-more

@@ -1,51 +1,33 @@
 -- Full exchanges: one site works and sends all its notes; the other takes them all and the receipts are all taken; then the same the
--- other way round (document 01, "Two sites").
-use mathlib.Core.Path.{_≡_}
-use mathlib.Core.List.{List, [], _∷_}
-use Prim.Native.Nat.{ℕ, zero, suc}
+-- other way round (document 01, "Two sites"). On tables this comes to: all that the one held when it had worked is receipted in the end.
+-- Before and after it works anything may happen on the line: notes in any order and repeatedly, late ones of before, further work.
+use Prim.Native.Nat.{ℕ, zero, suc, _≤_}
 use Rattle.rewriting.specs.Rewriting.{Rules, Question}
 use Rattle.rewriting.specs.Entries.{Entry}
-use Rattle.notes.specs.Notes.{Note, raise, receipt, Ledger, Works, take, Due}
-use Rattle.notes.specs.Line.{In, written}
+use Rattle.notes.specs.Notes.{Ledger, Works}
+use Rattle.notes.specs.Line.{works, System, swap, Steps}
 
--- The site after it took the notes in turn.
-unfoldable pub takes : List Note → Ledger → Ledger
-takes [] l = l
-takes (n ∷ ns) l = takes ns (take n l .ledger)
+-- Both sites after a has worked.
+abbrev pub a-works : Ledger → System → System
+a-works l x = record { a = works l (x .a); b = x .b }
 
--- The receipts that it wrote meanwhile, in the order of the notes.
-unfoldable pub replies : List Note → Ledger → List Note
-replies [] l = []
-replies (n ∷ ns) l = written (take n l .answer) (replies ns (take n l .ledger))
-
--- The note is that of an entry that waits to be sent.
-abbrev pub SentBy : ℕ → Ledger → Note → Type 0
-SentBy K l (raise k s a m) = Entry K k s a × Due l k s a × (m ≡ l .minute k s a)
-SentBy K l (receipt k s a m) = ⊥
-
--- The notes are those of all the entries that wait to be sent, in any order.
-pub record Sends (K : ℕ) (l : Ledger) (ns : List Note) : Type 0 where
-  pub each : (n : Note) → In n ns → SentBy K l n
-  pub all : (k s a : ℕ) → Entry K k s a → Due l k s a → In (raise k s a (l .minute k s a)) ns
-
--- One half: a works and sends all its notes; b takes them all; a takes all the receipts.
-pub record Half (Q : Question) (R : Rules) (a b a′ b′ : Ledger) : Type 0 where
+-- One half: a works, and at the end of a run after it all that it held then is receipted.
+pub record Half (Q : Question) (R T : Rules) (x y : System) : Type 0 where
+  pub from : System
+  pub before : Steps Q R T x from
   pub worked : Ledger
-  pub works : Works Q R a worked
-  pub notes : List Note
-  pub sent : Sends (Q .keys) worked notes
-  pub taken : b′ ≡ takes notes b
-  pub back : a′ ≡ takes (replies notes b) worked
+  pub work : Works Q R (from .a .ledger) worked
+  pub after : Steps Q R T (a-works worked from) y
+  pub all : (k s p : ℕ) → Entry (Q .keys) k s p → worked .minute k s p ≤ y .a .ledger .receipted k s p
 
 -- A full exchange that a begins: one half, and the same the other way round.
-pub record Full (Q : Question) (R T : Rules) (a b a′ b′ : Ledger) : Type 0 where
-  pub a₁ : Ledger
-  pub b₁ : Ledger
-  pub there : Half Q R a b a₁ b₁
-  pub back : Half Q T b₁ a₁ b′ a′
+pub record Full (Q : Question) (R T : Rules) (x y : System) : Type 0 where
+  pub middle : System
+  pub there : Half Q R T x middle
+  pub back : Half Q T R (swap middle) (swap y)
 
--- n full exchanges, each begun by either site.
-pub data Exchanges (Q : Question) (R T : Rules) (a b : Ledger) : ℕ → Ledger → Ledger → Type 0 where
-  begin : Exchanges Q R T a b zero a b
-  from-a : {n : ℕ} {a₁ b₁ a₂ b₂ : Ledger} → Exchanges Q R T a b n a₁ b₁ → Full Q R T a₁ b₁ a₂ b₂ → Exchanges Q R T a b (suc n) a₂ b₂
-  from-b : {n : ℕ} {a₁ b₁ a₂ b₂ : Ledger} → Exchanges Q R T a b n a₁ b₁ → Full Q T R b₁ a₁ b₂ a₂ → Exchanges Q R T a b (suc n) a₂ b₂
+-- n full exchanges in a row, each begun by either site.
+pub data Exchanges (Q : Question) (R T : Rules) (x : System) : ℕ → System → Type 0 where
+  begin : Exchanges Q R T x zero x
+  from-a : {n : ℕ} {y z : System} → Exchanges Q R T x n y → Full Q R T y z → Exchanges Q R T x (suc n) z
+  from-b : {n : ℕ} {y z : System} → Exchanges Q R T x n y → Full Q T R (swap y) (swap z) → Exchanges Q R T x (suc n) z

@@ -42,6 +42,10 @@ pub record System : Type 0 where
   pub a : Party
   pub b : Party
 
+-- The two sites in each other's places.
+abbrev pub swap : System → System
+swap x = record { a = x .b; b = x .a }
+
 -- One of them acts.
 pub data Step (Q : Question) (R T : Rules) : System → System → Type 0 where
   step-a : {x : System} {p : Party} → Act Q R (x .b .wrote) (x .a) p → Step Q R T x (record { a = p; b = x .b })

@@ -1,5 +1,4 @@
--- Two files together: each file's certificates are among those of both, what is above a pass of each file is above a pass of both, so
--- a table that neither file's pass improves is the last for both together.
+-- Two files together: each file's certificates are among those of both, what is above a pass of each file is above a pass of both.
 use mathlib.Core.Path.{_≡_, sym, _∙_, subst}
 use mathlib.Core.Logic.{_⊎_, inl, inr, ⊎-elim, by-cases}
 use mathlib.Core.Bool.{true}
@@ -11,7 +10,7 @@ use Rattle.rewriting.specs.Weighing.{Weighing, AtMost}
 use Rattle.rewriting.specs.Rewriting.{Rules, Question, Weighty}
 use Rattle.rewriting.specs.Entries.{Certificate, Entry, Lawful, Fires}
 use Rattle.rewriting.specs.Passes.{Table, brought, pass}
-use Rattle.rewriting.specs.Tables.{Below, Sound, Started, Closed, Last}
+use Rattle.rewriting.specs.Tables.{Below}
 use Rattle.rewriting.specs.Together.{Copy, Among, joined, together}
 use Rattle.rewriting.proofs.Order.{at-most-trans}
 use Rattle.rewriting.proofs.Copies.{copy-fires, copy-brings}
@@ -106,7 +105,3 @@ module _ (Q : Question) (R T : Rules) where
         (λ h. rw h (at-most-trans W (pass-keeps Q R t k s a) (first k s a e)))
         (λ o. rw (o .2) (⊎-elim (by-copy first e (o .1)) (by-copy second e (o .1)) (together-from R T (o .0) (o .1 .there) (o .1 .usable))))
         (pass-from Q (together R T) t k s a)
-
-  -- A table that is sound for both files together, has the start, and that neither file's pass improves, is the last for both.
-  pub together-last : (t : Table) → Sound Q (together R T) t → Started Q t → Closed Q R t → Closed Q T t → Last Q (together R T) t
-  together-last t sound started first second = record { sound = sound; started = started; closed = pass-together t t first second }

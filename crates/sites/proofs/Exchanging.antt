@@ -1,160 +1,140 @@
 -- Full exchanges of two sites are full exchanges of the rules on their tables.
 use mathlib.Core.Path.{_≡_, refl, sym, ap, _∙_, subst}
-use mathlib.Core.Logic.{_⊎_, ⊎-elim, by-cases}
-use mathlib.Core.List.{List, _∷_, map, List·Memᴰ, List·Memᴰ·head, List·Memᴰ·tail, List·Memᴰ·not-nil, List·Memᴰ·cases-cons, Memᴰ·map}
+use mathlib.Core.Logic.{_⊎_, inl, inr, ⊎-elim, by-cases}
+use mathlib.Core.List.{List, List·Memᴰ, List·Memᴰ·cases-cons, List·Memᴰ·not-nil}
 use Prim.Native.Nat.{ℕ, _≤_, _<_}
+use native.Mathlib.Nat.{le-trans}
 use native.Mathlib.Omega.{arith}
-use native.Mathlib.Decide.{ℕ-discrete, decLt}
+use native.Mathlib.Decide.{decLt}
+use lib.ListN.{length}
 use Rattle.wac.specs.Limits.{keys, entries, withoutEnd}
+use Rattle.wac.specs.Answers.{refuses}
+use Rattle.wac.proofs.Cases.{gives-not-refuses}
+use Rattle.rewriting.specs.Entries.{Entry}
 use Rattle.decision.specs.Usable.{rulesOf}
-use Rattle.decision.specs.Table.{number}
+use Rattle.decision.specs.Table.{keyOf, symbolOf, arrivalOf, number}
 use Rattle.decision.specs.Question.{asked}
 use Rattle.decision.specs.declared.request.Request.{Request}
 use Rattle.decision.proofs.TableLaws.{entry-of, is-entry, number-low, entry-back, key-back, symbol-back, arrival-back}
 use Rattle.notes.specs.Notes as rules
-use Rattle.notes.specs.Line as line
 use Rattle.notes.specs.Exchange as exchange
-use Rattle.notes.proofs.Running.{Comes, comes-swap, comes-half}
-use Rattle.notes.proofs.Main.{due-formed}
-use Rattle.sites.specs.Notes.{noteBytes}
-use Rattle.sites.specs.Site.{DueAt, raiseOf}
-use Rattle.sites.specs.Exchange.{SendsAll, TakesAll, Half, Full, Exchanges}
+use Rattle.notes.proofs.Taking.{receipt-noted}
+use Rattle.notes.proofs.Growing.{Grew, steps-grew}
+use Rattle.sites.specs.Notes.{noteLength, noteFrom, noteBytes}
+use Rattle.sites.specs.Site.{takenAs, Takes, DueAt, minuteAt, receiptedAt, raiseOf, receiptOf}
+use Rattle.sites.specs.Line.{Act, System, Step, Steps}
+use Rattle.sites.specs.Exchange.{accepted, taken-a, Turn, Half, Full, Exchanges}
 use Rattle.sites.specs.declared.site.Site.{Site}
-use Rattle.sites.proofs.Ledgers.{ledger, noteOf, Standing, Honest, AllHonest, honest-more, site-works, follows}
-use Rattle.sites.proofs.Sending.{due-tables, tables-due, sent-note-of, sent-none-of, Sendable, raise-honest, raise-says}
-use Rattle.sites.proofs.Following.{InOrder}
+use Rattle.sites.specs.declared.site.Taken.{Taken}
+use Rattle.sites.specs.declared.site.Taken.the-variants as takens
+use Rattle.sites.proofs.SiteLaws.{few-bytes}
+use Rattle.sites.proofs.Ledgers.{ledger, noteOf, saidBy, table-number, site-works, follows}
+use Rattle.sites.proofs.Sending.{reply-read}
+use Rattle.sites.proofs.Following.{system, InOrder, Followed, followed-swap, first-sendable, follow-steps}
 
--- all the notes of a site: honest, each of an entry that waits, and of every entry that waits
-module _ {s : List ℕ} {q : Request} {session : ℕ} (word : session ≤ withoutEnd) {x : Site} (st : Standing s q session x) (sendable : Sendable x) where
-  all-honest : {from : ℕ} {ns : List (List ℕ)} → SendsAll x from ns → AllHonest session ns
-  all-honest (SendsAll.sent-none l l′ sends) = λ b m. absurd (List·Memᴰ·not-nil m)
-  all-honest (SendsAll.sent-note e l l′ sends on) =
-      let n = sent-note-of sends in
-      honest-more (subst (Honest session) (sym (n .bytes)) (raise-honest word st sendable e (n .low) (n .next .due (n .low) .1))) (all-honest on)
+-- a note taken in an act was taken before, or is the one that was brought and not refused
+accepted-in : (t : Taken) {b c : List ℕ} {ns : List (List ℕ)} → List·Memᴰ c (accepted t b ns) → List·Memᴰ c ns ⊎ ((c ≡ b) × ((n : ℕ) (vs : List ℕ) → takenAs t ≡ refuses n vs → ⊥))
+accepted-in takens.Raise j = ⊎-elim (λ e. inr (e, λ n vs. gives-not-refuses)) inl (List·Memᴰ·cases-cons j)
+accepted-in takens.Receipt j = ⊎-elim (λ e. inr (e, λ n vs. gives-not-refuses)) inl (List·Memᴰ·cases-cons j)
+accepted-in (takens.Refused why) j = inl j
 
-  sent-by : (e : ℕ) → e < entries → DueAt x e → exchange.SentBy keys (ledger x) (noteOf (noteBytes (raiseOf x e)))
-  sent-by e low due = subst (exchange.SentBy keys (ledger x)) (sym (raise-says word st sendable e low due)) (entry-of _ _ _ (entry-back e low), due-tables x e low due, refl)
+module _ {f g : List ℕ} {q : Request} {session : ℕ} (word : session ≤ withoutEnd) (f-order : InOrder f q) (g-order : InOrder g q) where
+  -- what a site holds only grows
+  grew : {x y : System} → Followed f g q session x → Steps session x y → Grew keys (ledger (x .a .site)) (ledger (y .a .site))
+  grew k on = steps-grew (follow-steps word f-order g-order k on .1)
 
-  each-sent : {from : ℕ} {ns : List (List ℕ)} → SendsAll x from ns → (n : rules.Note) → line.In n (map noteOf ns) → exchange.SentBy keys (ledger x) n
-  each-sent (SendsAll.sent-none l l′ sends) n m = absurd (List·Memᴰ·not-nil m)
-  each-sent (SendsAll.sent-note e l l′ sends on) n m =
-      let k = sent-note-of sends in
-      ⊎-elim
-      (λ same. subst (exchange.SentBy keys (ledger x)) (sym (same ∙ ap noteOf (k .bytes))) (sent-by e (k .low) (k .next .due (k .low) .1)))
-      (λ j. each-sent on n j)
-      (List·Memᴰ·cases-cons m)
+  after : {x y : System} → Followed f g q session x → Steps session x y → Followed f g q session y
+  after k on = follow-steps word f-order g-order k on .0
 
-  every-sent : {from : ℕ} {ns : List (List ℕ)} → SendsAll x from ns → (e : ℕ) → from ≤ e → e < entries → DueAt x e → List·Memᴰ (noteBytes (raiseOf x e)) ns
-  every-sent (SendsAll.sent-none l l′ sends) e more low due = absurd (sent-none-of sends .before e more low low due)
-  every-sent (SendsAll.sent-note d l l′ sends on) e more low due =
-      let k = sent-note-of sends in
-      by-cases (decLt e d)
-      (λ below. absurd (k .next .before e more below low due))
-      (λ past. by-cases (ℕ-discrete e d)
-      (λ same. List·Memᴰ·head (ap (λ e. noteBytes (raiseOf x e)) same ∙ sym (k .bytes)))
-      (λ other. List·Memᴰ·tail (every-sent on e (omega arith) low due)))
+  -- a receipt that a takes, for a minute that it held before, is receipted after
+  module _ {x : System} (k : Followed f g q session x) {n s p m : ℕ} (e : Entry keys n s p) (held : m ≤ ledger (x .a .site) .minute n s p) (c : List ℕ) (says : noteOf c ≡ rules.receipt n s p m) where
+    brought : {y : System} (on : Steps session x y) {b l l′ : List ℕ} {t : Taken} {z : Site} → c ≡ b → List·Memᴰ b (y .b .wrote) → Takes (y .a .site) b l (record { answer = t; site = z }) l′ →
+        ((n : ℕ) (vs : List ℕ) → takenAs t ≡ refuses n vs → ⊥) → m ≤ ledger z .receipted n s p
+    brought {y} on {b} {l} {t = t} same j takes fine = by-cases (decLt (length l) noteLength)
+        (λ short. absurd (fine _ _ (takes .answer ∙ few-bytes (y .a .site) b (length l) (noteFrom b .kind) short)))
+        (λ room.
+        let here = after k on in
+        let d = follows word (here .a-stands) (here .b-honest b j) l (omega arith) t (takes .answer) (takes .site) (takes .bytes) in
+        let noted = receipt-noted n s p m (ledger (y .a .site)) (le-trans held (grew k on .minutes n s p e)) in
+        subst (λ (l : rules.Ledger). m ≤ l .receipted n s p) (sym (d .tables))
+        (subst (λ (o : rules.Note). m ≤ rules.take o (ledger (y .a .site)) .ledger .receipted n s p) (sym says ∙ ap noteOf same) noted))
 
-  sends-rules : {ns : List (List ℕ)} → SendsAll x 0 ns → exchange.Sends keys (ledger x) (map noteOf ns)
-  sends-rules {ns} sends = record {
-    each = each-sent sends;
-    all = λ k s a e d.
-        let t = is-entry k s a e in
-        let low = number-low k s a t in
-        let due = tables-due x k s a e d in
-        subst (λ (n : rules.Note). line.In n (map noteOf ns)) (raise-says word st sendable (number k s a) low due ∙ rw (key-back k s a t, symbol-back k s a t, arrival-back k s a t))
-        (Memᴰ·map noteOf (every-sent sends (number k s a) (omega arith) low due));
-  }
+    taken-receipt : {y : System} (on : Steps session x y) → List·Memᴰ c (taken-a on) → m ≤ ledger (y .a .site) .receipted n s p
+    unfolding taken-a
+    taken-receipt Steps.none j = absurd (List·Memᴰ·not-nil j)
+    taken-receipt (Steps.more on (Step.step-a (Act.act-work z works))) j =
+        le-trans (taken-receipt on j) (grew (after k on) (Steps.more Steps.none (Step.step-a (Act.act-work z works))) .receipts n s p e)
+    taken-receipt (Steps.more on (Step.step-a (Act.act-write from d l l′ sends))) j = taken-receipt on j
+    taken-receipt (Steps.more on (Step.step-a (Act.act-take b l l′ r i takes))) j = ⊎-elim
+        (λ j. le-trans (taken-receipt on j) (grew (after k on) (Steps.more Steps.none (Step.step-a (Act.act-take b l l′ r i takes))) .receipts n s p e))
+        (λ new. brought on (new .0) i takes (new .1))
+        (accepted-in (r .answer) j)
+    taken-receipt (Steps.more on (Step.step-a (Act.act-stray b l l′ r stray takes))) j =
+        le-trans (taken-receipt on j) (grew (after k on) (Steps.more Steps.none (Step.step-a (Act.act-stray b l l′ r stray takes))) .receipts n s p e)
+    taken-receipt (Steps.more on (Step.step-b act)) j = taken-receipt on j
 
--- notes taken in turn
-record Took (s : List ℕ) (q : Request) (session : ℕ) (x : Site) (ns : List (List ℕ)) (x′ : Site) (rs : List (List ℕ)) : Type 0 where
-  stands : Standing s q session x′
-  honest : AllHonest session rs
-  tables : ledger x′ ≡ exchange.takes (map noteOf ns) (ledger x)
-  writes : map noteOf rs ≡ exchange.replies (map noteOf ns) (ledger x)
+  -- when an entry has had its turn, what a held of it before is receipted
+  module _ {x y : System} (k : Followed f g q session x) {run : Steps session x y} (e : ℕ) (low : e < entries) (t : Turn run e) where
+    come : Followed f g q session (t .point)
+    come = after k (t .before)
 
-took : {s : List ℕ} {q : Request} {session : ℕ} → session ≤ withoutEnd → {x x′ : Site} {ns rs : List (List ℕ)} → Standing s q session x → AllHonest session ns →
-    TakesAll x ns x′ rs → Took s q session x ns x′ rs
-unfolding exchange.takes exchange.replies
-took word st all TakesAll.took-none = record { stands = st; honest = λ b m. absurd (List·Memᴰ·not-nil m); tables = refl; writes = refl }
-took word {x = x} {ns = b ∷ ns} st all (TakesAll.took-note {x′ = x′} {rs = rs} l l′ r room takes on) =
-    let f = follows word st (all b (List·Memᴰ·head refl)) l room (r .answer) (takes .answer) (takes .site) (takes .bytes) in
-    let k = took word (f .stands) (λ c m. all c (List·Memᴰ·tail m)) on in
-    record {
-      stands = k .stands;
-      honest = f .honest rs (k .honest);
-      tables = k .tables ∙ ap (exchange.takes (map noteOf ns)) (f .tables);
-      writes = f .writes rs ∙ ap (line.written (rules.take (noteOf b) (ledger x) .answer)) (k .writes ∙ ap (exchange.replies (map noteOf ns)) (f .tables));
-    }
+    here : Entry keys (keyOf e) (symbolOf e) (arrivalOf e)
+    here = entry-of _ _ _ (entry-back e low)
 
--- a site that works, sends all its notes and takes the receipts: one half
-record HalfDone (f g : List ℕ) (q : Request) (session : ℕ) (a b a′ b′ : Site) : Type 0 where
-  a-stands : Standing f q session a′
-  b-stands : Standing g q session b′
-  half : exchange.Half (asked q) (rulesOf f q) (ledger a) (ledger b) (ledger a′) (ledger b′)
+    receipt-says : DueAt (t .point .a .site) e →
+        noteOf (noteBytes (receiptOf (raiseOf (t .point .a .site) e))) ≡ rules.receipt (keyOf e) (symbolOf e) (arrivalOf e) (minuteAt (t .point .a .site) e)
+    receipt-says due =
+        let sendable = first-sendable f-order g-order (t .point .a) (t .point .b) (come .reached) in
+        ap saidBy (reply-read word (come .a-stands) sendable e low due)
 
--- what a state of the rules that holds a worked site's tables sends is sendable
-worked-sendable : {f g : List ℕ} {q : Request} → InOrder f q → InOrder g q → (w : Site) {a b : rules.Ledger} → Comes (asked q) (rulesOf f q) (rulesOf g q) a b →
-    rules.Works (asked q) (rulesOf f q) a (ledger w) → Sendable w
-worked-sendable {f} {g} {q} f-order g-order w (x, r, at-a, at-b) works k s p e d =
-    due-formed (f-order .lawful) (g-order .lawful)
-    (line.more r (line.step-a (line.act-work (ledger w) (subst (λ l. rules.Works (asked q) (rulesOf f q) l (ledger w)) (sym at-a) works))))
-    k s p e .0 d .symbol
+    turn-done : ledger (x .a .site) .minute (keyOf e) (symbolOf e) (arrivalOf e) ≤ ledger (y .a .site) .receipted (keyOf e) (symbolOf e) (arrivalOf e)
+    turn-done =
+        let minute = table-number (t .point .a .site .minutes) e low in
+        let receipted = table-number (t .point .a .site .receipted) e low in
+        le-trans (grew k (t .before) .minutes _ _ _ here) (by-cases (decLt (receiptedAt (t .point .a .site) e) (minuteAt (t .point .a .site) e))
+        (λ due. (let done = taken-receipt come here (omega arith) _ (receipt-says due) (t .after) (t .told due .1) in omega arith))
+        (λ not. (let done = grew come (t .after) .receipts _ _ _ here in omega arith)))
 
-half-done : {f g : List ℕ} {q : Request} {session : ℕ} → session ≤ withoutEnd → InOrder f q → InOrder g q → {a b a′ b′ : Site} → Standing f q session a → Standing g q session b →
-    Comes (asked q) (rulesOf f q) (rulesOf g q) (ledger a) (ledger b) → Half a b a′ b′ → HalfDone f g q session a b a′ b′
-half-done {f} {g} {q} {session} word f-order g-order {a} {b} {a′} {b′} a-st b-st comes h =
-    let w = site-works f q (f-order .lawful) (f-order .admitted) a-st (h .works) in
-    let sendable = worked-sendable f-order g-order (h .worked) comes (w .0) in
-    let there = took word b-st (all-honest word (w .1) sendable (h .sent)) (h .taken) in
-    let back = took word (w .1) (there .honest) (h .back) in
-    record {
-      a-stands = back .stands;
-      b-stands = there .stands;
-      half = record {
+  -- a half is a half of the rules
+  pub half-rules : {x y : System} → Followed f g q session x → Half session x y → exchange.Half (asked q) (rulesOf f q) (rulesOf g q) (system x) (system y)
+  half-rules {x} {y} k h =
+      let there = after k (h .before) in
+      let begun = after there (Steps.more Steps.none (Step.step-a (Act.act-work (h .worked) (h .work)))) in
+      record {
+        from = system (h .from);
+        before = follow-steps word f-order g-order k (h .before) .1;
         worked = ledger (h .worked);
-        works = w .0;
-        notes = map noteOf (h .notes);
-        sent = sends-rules word (w .1) sendable (h .sent);
-        taken = there .tables;
-        back = back .tables ∙ ap (λ rs. exchange.takes rs (ledger (h .worked))) (there .writes);
-      };
-    }
+        work = site-works f q (f-order .lawful) (f-order .admitted) (there .a-stands) (h .work) .0;
+        after = follow-steps word f-order g-order begun (h .after) .1;
+        all = λ n s p e.
+            let t = is-entry n s p e in
+            let low = number-low n s p t in
+            rw (key-back n s p t, symbol-back n s p t, arrival-back n s p t) at (turn-done begun (number n s p) low (h .turns (number n s p) low));
+      }
 
--- a full exchange
-record FullDone (f g : List ℕ) (q : Request) (session : ℕ) (a b a′ b′ : Site) : Type 0 where
-  a-stands : Standing f q session a′
-  b-stands : Standing g q session b′
-  comes : Comes (asked q) (rulesOf f q) (rulesOf g q) (ledger a′) (ledger b′)
-  full : exchange.Full (asked q) (rulesOf f q) (rulesOf g q) (ledger a) (ledger b) (ledger a′) (ledger b′)
+  pub half-followed : {x y : System} → Followed f g q session x → Half session x y → Followed f g q session y
+  half-followed k h =
+      let there = after k (h .before) in
+      after (after there (Steps.more Steps.none (Step.step-a (Act.act-work (h .worked) (h .work))))) (h .after)
 
-full-done : {f g : List ℕ} {q : Request} {session : ℕ} → session ≤ withoutEnd → InOrder f q → InOrder g q → {a b a′ b′ : Site} → Standing f q session a → Standing g q session b →
-    Comes (asked q) (rulesOf f q) (rulesOf g q) (ledger a) (ledger b) → Full a b a′ b′ → FullDone f g q session a b a′ b′
-full-done word f-order g-order a-st b-st comes e =
-    let one = half-done word f-order g-order a-st b-st comes (e .there) in
-    let half-way = comes-swap (comes-half comes (one .half)) in
-    let two = half-done word g-order f-order (one .b-stands) (one .a-stands) half-way (e .back) in
-    record {
-      a-stands = two .b-stands;
-      b-stands = two .a-stands;
-      comes = comes-swap (comes-half half-way (two .half));
-      full = record { a₁ = ledger (e .a₁); b₁ = ledger (e .b₁); there = one .half; back = two .half };
-    }
+-- so are a full exchange and any number of them
+module _ {q : Request} {session : ℕ} (word : session ≤ withoutEnd) where
+  full-rules : {f g : List ℕ} → InOrder f q → InOrder g q → {x y : System} → Followed f g q session x → Full session x y →
+      exchange.Full (asked q) (rulesOf f q) (rulesOf g q) (system x) (system y) × Followed f g q session y
+  full-rules f-order g-order k e =
+      let middle = followed-swap (half-followed word f-order g-order k (e .there)) in (
+        record { middle = system (e .middle); there = half-rules word f-order g-order k (e .there); back = half-rules word g-order f-order middle (e .back) },
+        followed-swap (half-followed word g-order f-order middle (e .back)),
+      )
 
--- any number of full exchanges
-pub record Exchanged (f g : List ℕ) (q : Request) (session : ℕ) (a b : Site) (n : ℕ) (a′ b′ : Site) : Type 0 where
-  pub a-stands : Standing f q session a′
-  pub b-stands : Standing g q session b′
-  pub comes : Comes (asked q) (rulesOf f q) (rulesOf g q) (ledger a′) (ledger b′)
-  pub exchanges : exchange.Exchanges (asked q) (rulesOf f q) (rulesOf g q) (ledger a) (ledger b) n (ledger a′) (ledger b′)
-
-pub exchanged : {f g : List ℕ} {q : Request} {session : ℕ} → session ≤ withoutEnd → InOrder f q → InOrder g q → {a b : Site} → Standing f q session a → Standing g q session b →
-    Comes (asked q) (rulesOf f q) (rulesOf g q) (ledger a) (ledger b) → {n : ℕ} {a′ b′ : Site} → Exchanges a b n a′ b′ → Exchanged f g q session a b n a′ b′
-exchanged word f-order g-order a-st b-st comes Exchanges.begin = record { a-stands = a-st; b-stands = b-st; comes = comes; exchanges = exchange.begin }
-exchanged word f-order g-order a-st b-st comes (Exchanges.from-a on e) =
-    let k = exchanged word f-order g-order a-st b-st comes on in
-    let d = full-done word f-order g-order (k .a-stands) (k .b-stands) (k .comes) e in
-    record { a-stands = d .a-stands; b-stands = d .b-stands; comes = d .comes; exchanges = exchange.from-a (k .exchanges) (d .full) }
-exchanged word f-order g-order a-st b-st comes (Exchanges.from-b on e) =
-    let k = exchanged word f-order g-order a-st b-st comes on in
-    let d = full-done word g-order f-order (k .b-stands) (k .a-stands) (comes-swap (k .comes)) e in
-    record { a-stands = d .b-stands; b-stands = d .a-stands; comes = comes-swap (d .comes); exchanges = exchange.from-b (k .exchanges) (d .full) }
+  pub exchanges-rules : {f g : List ℕ} → InOrder f q → InOrder g q → {x y : System} {n : ℕ} → Followed f g q session x → Exchanges session x n y →
+      exchange.Exchanges (asked q) (rulesOf f q) (rulesOf g q) (system x) n (system y) × Followed f g q session y
+  exchanges-rules f-order g-order k Exchanges.begin = (exchange.begin, k)
+  exchanges-rules f-order g-order k (Exchanges.from-a on e) =
+      let before = exchanges-rules f-order g-order k on in
+      let one = full-rules f-order g-order (before .1) e in
+      (exchange.from-a (before .0) (one .0), one .1)
+  exchanges-rules f-order g-order k (Exchanges.from-b on e) =
+      let before = exchanges-rules f-order g-order k on in
+      let one = full-rules g-order f-order (followed-swap (before .1)) e in
+      (exchange.from-b (before .0) (one .0), followed-swap (one .1))

@@ -34,7 +34,7 @@ use Rattle.decision.proofs.QuestionLaws.{within-exact}
 use Rattle.decision.proofs.TableLaws.{entry-of, entry-back, length-row, held-row}
 use Rattle.notes.specs.Notes as rules
 use Rattle.notes.specs.Line as line
-use Rattle.notes.proofs.Good.{swap}
+use Rattle.notes.specs.Line.{swap}
 use Rattle.notes.proofs.Running.{steps-swap}
 use Rattle.notes.proofs.Main.{due-formed}
 use Rattle.sites.specs.Notes.{noteLength, noteFrom, noteOk}
@@ -139,11 +139,11 @@ pub record Followed (f g : List ℕ) (q : Request) (session : ℕ) (x : System) 
   pub reached : line.Reached (asked q) (rulesOf f q) (rulesOf g q) (system x)
 
 -- the two sides are alike
-followed-swap : {f g : List ℕ} {q : Request} {session : ℕ} {a b : Party} → Followed f g q session (record { a = a; b = b }) → Followed g f q session (record { a = b; b = a })
+pub followed-swap : {f g : List ℕ} {q : Request} {session : ℕ} {a b : Party} → Followed f g q session (record { a = a; b = b }) → Followed g f q session (record { a = b; b = a })
 followed-swap k = record { a-stands = k .b-stands; b-stands = k .a-stands; a-honest = k .b-honest; b-honest = k .a-honest; reached = steps-swap (k .reached) }
 
 -- what the first site holds is sent only where the rules send it
-first-sendable : {f g : List ℕ} {q : Request} → InOrder f q → InOrder g q → (a b : Party) → line.Reached (asked q) (rulesOf f q) (rulesOf g q) (record { a = party a; b = party b }) → Sendable (a .site)
+pub first-sendable : {f g : List ℕ} {q : Request} → InOrder f q → InOrder g q → (a b : Party) → line.Reached (asked q) (rulesOf f q) (rulesOf g q) (record { a = party a; b = party b }) → Sendable (a .site)
 first-sendable f-order g-order a b r k s p e d = due-formed (f-order .lawful) (g-order .lawful) r k s p e .0 d .symbol
 
 -- an act of the rules, or none

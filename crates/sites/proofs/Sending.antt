@@ -1,13 +1,16 @@
 -- The notes that a site writes are those of the entries that wait, and a site rests if its tables do.
 use mathlib.Core.Path.{_≡_, refl, sym, ap, _∙_, subst}
 use mathlib.Core.Bool.{true}
+use mathlib.Core.Option.{Option, none, some}
 use mathlib.Core.List.{List}
 use Prim.Native.Nat.{ℕ, _≤_, _<_}
 use native.Mathlib.Omega.{arith}
-use borrow.Author.Tests.{le-leb, leb-true}
+use borrow.Author.Tests.{le-leb, leb-true, ltb-false}
 use lib.Dec.{leb}
-use lib.ListN.{take}
+use lib.ListN.{length, take}
 use Rattle.wac.specs.Limits.{keys, entries, delegate, withoutEnd}
+use Rattle.wac.specs.Answers.{gives, firstOf}
+use Rattle.wac.proofs.Cases.{first-none, first-passed, gives-injective, gives-not-refuses}
 use Rattle.wac.proofs.Tests.{and-both, allBelow-true, allBelow-at}
 use Rattle.rewriting.specs.Weighing.{minutes}
 use Rattle.rewriting.specs.Entries.{Entry}
@@ -15,11 +18,12 @@ use Rattle.decision.specs.Table.{number, keyOf, symbolOf, arrivalOf}
 use Rattle.decision.specs.declared.request.Request.{Request}
 use Rattle.decision.proofs.TableLaws.{entry-of, is-entry, number-low, entry-back}
 use Rattle.notes.specs.Notes as rules
-use Rattle.sites.specs.Notes.{noteLength, noteBytes}
-use Rattle.sites.specs.Site.{minuteAt, receiptedAt, DueAt, NextDue, raiseOf, Sends, restful}
+use Rattle.sites.specs.Notes.{noteLength, noteFrom, noteBytes}
+use Rattle.sites.specs.Site.{minuteAt, receiptedAt, DueAt, NextDue, receiptOf, raiseOf, nextOf, sendCases, Sends, restful}
 use Rattle.sites.specs.declared.site.Site.{Site}
 use Rattle.sites.specs.declared.site.Sending.{Sending}
 use Rattle.sites.specs.declared.site.Sending.the-variants as sendings
+use Rattle.sites.proofs.SiteLaws.{Known, next-known, send-given}
 use Rattle.sites.proofs.NoteLaws.{note-taken, Fields}
 use Rattle.sites.proofs.Ledgers.{ledger, noteOf, saidBy, Standing, Honest, written-says, written-honest, table-at, table-number}
 
@@ -59,18 +63,17 @@ pub record SentNote (x : Site) (from e : ℕ) (l : List ℕ) : Type 0 where
   pub next : NextDue x from e
   pub bytes : take noteLength l ≡ noteBytes (raiseOf x e)
 
-entryIn : Sending → ℕ
-entryIn (sendings.Note e) = e
-entryIn sendings.Nothing = 0
-entryIn sendings.Refused = 0
+-- what is sent is what is next
+given-next : (x : Site) (from : ℕ) (l : List ℕ) (o : Option ℕ) → gives o ≡ firstOf (sendCases (length l)) (nextOf x from) →
+    (noteLength ≤ length l) × Known x from o
+given-next x from l o e =
+    let p = first-passed _ _ _ (sym e) in
+    (ltb-false _ _ (p .0), next-known x from o (gives-injective (sym (first-none _) ∙ p .1)))
 
 pub sent-note-of : {x : Site} {from e : ℕ} {l l′ : List ℕ} → Sends x from l (sendings.Note e) l′ → SentNote x from e l′
-unfolding entryIn
-sent-note-of (Sends.refused short e same) = absurd (let z : _≡_ {A = ℕ} 0 1 = cc in omega arith)
-sent-note-of {x} {from} {l = l} {l′ = l′} (Sends.note room d low next same bytes) =
-    let here : _ ≡ d = ap entryIn same in
-    subst (λ e. SentNote x from e l′) (sym here) (record { low = low; next = next; bytes = ap (take noteLength) bytes ∙ note-taken l (raiseOf x d) room })
-sent-note-of (Sends.nothing room none e same) = absurd (let z : _≡_ {A = ℕ} 0 1 = cc in omega arith)
+sent-note-of {x} {from} {e} {l} sends =
+    let (room, known) = given-next x from l (some e) (sends .answer) in
+    record { low = known .0; next = known .1; bytes = ap (take noteLength) (sends .bytes) ∙ note-taken l (raiseOf x e) room }
 
 -- so it is of an entry at or above the one that was given
 pub sent-above : {x : Site} {from e : ℕ} {l l′ : List ℕ} {r : Sending} → Sends x from l r l′ → r ≡ sendings.Note e → (from ≤ e) × (e < entries)
@@ -79,9 +82,11 @@ sent-above {x} {from} {l = l} {l′ = l′} sends same =
     (n .next .due (n .low) .0, n .low)
 
 pub sent-none-of : {x : Site} {from : ℕ} {l l′ : List ℕ} → Sends x from l sendings.Nothing l′ → NextDue x from entries
-sent-none-of (Sends.refused short e same) = absurd (let z : _≡_ {A = ℕ} 0 1 = cc in omega arith)
-sent-none-of (Sends.note room d low next same bytes) = absurd (let z : _≡_ {A = ℕ} 0 1 = cc in omega arith)
-sent-none-of (Sends.nothing room none e same) = none
+sent-none-of {x} {from} {l} sends = given-next x from l none (sends .answer) .1
+
+-- with room sending is not refused
+pub never-short : {x : Site} {from : ℕ} {l l′ : List ℕ} → noteLength ≤ length l → Sends x from l sendings.Refused l′ → ⊥
+never-short {x} {from} {l} room sends = gives-not-refuses (send-given x from l room refl ∙ sym (sends .answer))
 
 -- only identifiers and mark 10 wait
 abbrev pub Sendable : Site → Type 0
@@ -97,13 +102,25 @@ module _ {s : List ℕ} {q : Request} {session : ℕ} (word : session ≤ withou
     entry = entry-back e low;
   }
 
+  reply-fields : Fields (receiptOf (raiseOf x e))
+  reply-fields = record { kind = refl; some = raise-fields .some; symbol = raise-fields .symbol; entry = raise-fields .entry }
+
   raise-fits : minuteAt x e ≤ withoutEnd
   unfolding minutes
   raise-fits = st .minutes .fits e
+
+  pub raise-read : noteFrom (noteBytes (raiseOf x e)) ≡ raiseOf x e
+  raise-read = written-says session word (raiseOf x e) raise-fields raise-fits (st .of-session)
 
   pub raise-honest : Honest session (noteBytes (raiseOf x e))
   raise-honest = written-honest session word (raiseOf x e) raise-fields raise-fits (st .of-session)
 
   pub raise-says : noteOf (noteBytes (raiseOf x e)) ≡ rules.raise (keyOf e) (symbolOf e) (arrivalOf e) (ledger x .minute (keyOf e) (symbolOf e) (arrivalOf e))
-  raise-says = ap saidBy (written-says session word (raiseOf x e) raise-fields raise-fits (st .of-session))
-      ∙ ap (rules.raise (keyOf e) (symbolOf e) (arrivalOf e)) (sym (table-number (x .minutes) e low))
+  raise-says = ap saidBy raise-read ∙ ap (rules.raise (keyOf e) (symbolOf e) (arrivalOf e)) (sym (table-number (x .minutes) e low))
+
+  -- and so is its receipt
+  pub reply-read : noteFrom (noteBytes (receiptOf (raiseOf x e))) ≡ receiptOf (raiseOf x e)
+  reply-read = written-says session word (receiptOf (raiseOf x e)) reply-fields raise-fits (st .of-session)
+
+  pub reply-honest : Honest session (noteBytes (receiptOf (raiseOf x e)))
+  reply-honest = written-honest session word (receiptOf (raiseOf x e)) reply-fields raise-fits (st .of-session)

@@ -1,9 +1,12 @@
 -- Laws of notes and of sites that the proofs of the functions cite.
-use mathlib.Core.Path.{_≡_, refl, sym, ap, _∙_}
+use mathlib.Core.Path.{_≡_, refl, sym, ap, _∙_, subst}
 use mathlib.Core.Bool.{Bool, true, false, cond, not, _&&_, _||_}
-use mathlib.Core.Logic.{_⊎_, inl, inr}
+use mathlib.Core.Logic.{_⊎_, inl, inr, by-cases}
+use mathlib.Core.Option.{Option, none, some}
 use mathlib.Core.List.{List, [], _∷_, _++_}
-use Prim.Native.Nat.{ℕ, suc, _+_, _<_, _≤_}
+use Prim.Native.Nat.{ℕ, zero, suc, _+_, _-_, _<_, _≤_}
+use native.Mathlib.Nat.{le-refl}
+use native.Mathlib.Decide.{ℕ-discrete}
 use native.Mathlib.Omega.{arith}
 use native.Mathlib.Numerals.{add-one}
 use borrow.Author.Tests.{ltb-true, ltb-false, leb-true, leb-false, eqb-true, lt-ltb, le-ltb, lt-leb, eq-eqb, ne-eqb, not-false}
@@ -30,7 +33,7 @@ use Rattle.decision.proofs.Choices.{when-true}
 use Rattle.decision.proofs.TableLaws.{number-low}
 use Rattle.decision.proofs.PassingLaws.{asker-entry, started}
 use Rattle.sites.specs.Notes.{noteLength, raiseKind, receiptKind, noteFrom, formed, noteOk}
-use Rattle.sites.specs.Site.{copied, startOf, openedSite, minuteAt, receiptedAt, entryOf, takenAs, noteCases, siteAfter, bytesAfter, Takes, NextDue, restful}
+use Rattle.sites.specs.Site.{copied, startOf, openedSite, minuteAt, receiptedAt, entryOf, takenAs, noteCases, siteAfter, bytesAfter, Takes, DueAt, NextDue, waiting, nextOf, sendCases, restful}
 use Rattle.sites.specs.declared.note.Note.{Note}
 use Rattle.sites.specs.declared.site.Site.{Site}
 use Rattle.sites.specs.declared.site.Taken.{Taken}
@@ -177,11 +180,11 @@ module _ (asker : ℕ) (h : asker < keys) where
   pub start-set : (l : List ℕ) (n m : ℕ) → l ≡ replicate entries 0 → n ≡ entryNumber asker delegate endPlace → m ≡ entryNumber asker access endPlace →
       set (set l n withoutEnd) m withoutEnd ≡ startOf asker
   unfolding minutes
-  start-set l n m none d e =
-      let long : length l ≡ entries = ap length none ∙ length-replicate {A = ℕ} entries 0 in
+  start-set l n m zeros d e =
+      let long : length l ≡ entries = ap length zeros ∙ length-replicate {A = ℕ} entries 0 in
       let low : length (set (set l n withoutEnd) m withoutEnd) ≤ entries = simp length-set (omega arith) in
       sym (take-all entries (set (set l n withoutEnd) m withoutEnd) low)
-      ∙ started Minutes asker h l (omega arith) (take-all entries l (omega arith) ∙ none) n m withoutEnd (d ∙ mark-number delegate (inl refl)) (e ∙ mark-number access (inr refl)) refl .0
+      ∙ started Minutes asker h l (omega arith) (take-all entries l (omega arith) ∙ zeros) n m withoutEnd (d ∙ mark-number delegate (inl refl)) (e ∙ mark-number access (inr refl)) refl .0
 
 -- a site of the copied bytes and the start is the opened site
 pub opened-with : (s : List ℕ) (q : Request) (session : ℕ) (file minutes : List ℕ) → file ≡ copied s (replicate largestFile 0) → minutes ≡ startOf (q .asker) →
@@ -202,13 +205,69 @@ pub settle-stays : {s : List ℕ} {q : Request} {r : Settling} {t t′ : List �
 settle-stays why (refused w case e same) f = refused w case (sym f ∙ e) refl
 settle-stays why (settled case N held e) f = absurd (let z : _≡_ {A = ℕ} 0 1 = cc in omega arith)
 
--- no entry is due
+-- the next entry that waits
 module _ (x : Site) where
-  pub none-due : (from e : ℕ) → entries ≤ e → NextDue x from e → NextDue x from entries
-  none-due from e h next = record {
-    before = λ d low below. next .before d low (omega arith);
-    due = λ l. absurd (omega arith);
+  -- there is one of them, or none
+  next-unique : {from : ℕ} (e d : ℕ) → e < entries → d < entries → NextDue x from e → NextDue x from d → e ≡ d
+  next-unique e d low low′ next next′ = turn (ltb e d) refl (ltb d e) refl
+    where
+      turn : (t : Bool) → ltb e d ≡ t → (t′ : Bool) → ltb d e ≡ t′ → e ≡ d
+      turn true h t′ h′ = let due = next .due low in absurd (next′ .before e (due .0) (ltb-true _ _ h) low (due .1))
+      turn false h true h′ = let due = next′ .due low′ in absurd (next .before d (due .0) (ltb-true _ _ h′) low′ (due .1))
+      turn false h false h′ = omega (arith, ltb-false e d h, ltb-false d e h′)
+
+  not-none : {from : ℕ} (e d : ℕ) → e < entries → entries ≤ d → NextDue x from e → NextDue x from d → ⊥
+  not-none e d low high next next′ = let due = next .due low in next′ .before e (due .0) (omega arith) low (due .1)
+
+  -- an entry that does not wait is passed over
+  pass-over : {from e : ℕ} → (DueAt x from → ⊥) → NextDue x (from + 1) e → NextDue x from e
+  pass-over {from} idle next = record {
+    before = λ d low below range due. by-cases (ℕ-discrete d from)
+        (λ same. idle (subst (DueAt x) same due))
+        (λ other. next .before d (omega arith) below range due);
+    due = λ low. (let d = next .due low in (omega (arith, d .0), d .1));
   }
+
+  -- what is next is the lowest entry that waits
+  abbrev pub Known : ℕ → Option ℕ → Type 0
+  Known from (some e) = (e < entries) × NextDue x from e
+  Known from none = NextDue x from entries
+
+  known-over : (from : ℕ) (o : Option ℕ) → (DueAt x from → ⊥) → Known (from + 1) o → Known from o
+  known-over from (some e) idle known = (known .0, pass-over idle (known .1))
+  known-over from none idle known = pass-over idle known
+
+  waiting-known : (n from : ℕ) → n ≡ entries - from → Known from (waiting x from n)
+  unfolding waiting
+  waiting-known zero from h = record { before = λ d low below range due. omega arith; due = λ low. absurd (omega arith) }
+  waiting-known (suc n) from h = turn (ltb (receiptedAt x from) (minuteAt x from)) refl (waiting-known n (from + 1) (omega arith))
+    where
+      turn : (t : Bool) → ltb (receiptedAt x from) (minuteAt x from) ≡ t → Known (from + 1) (waiting x (from + 1) n) →
+          Known from (cond t (some from) (waiting x (from + 1) n))
+      turn true e rest = (omega arith, record { before = λ d low below range due. omega arith; due = λ low. (le-refl from, ltb-true _ _ e) })
+      turn false e rest = known-over from (waiting x (from + 1) n) (λ due. omega (arith, ltb-false (receiptedAt x from) (minuteAt x from) e)) rest
+
+  pub next-known : (from : ℕ) (o : Option ℕ) → nextOf x from ≡ o → Known from o
+  next-known from o e = subst (Known from) e (waiting-known (entries - from) from refl)
+
+  -- and the lowest entry that waits is next
+  pub next-some : {from e : ℕ} → e < entries → NextDue x from e → nextOf x from ≡ some e
+  next-some {from} {e} low next = turn (nextOf x from) (next-known from _ refl)
+    where
+      turn : (o : Option ℕ) → Known from o → o ≡ some e
+      turn (some d) known = ap some (next-unique d e (known .0) low (known .1) next)
+      turn none known = absurd (not-none e entries low (le-refl _) next known)
+
+  pub next-none : {from e : ℕ} → entries ≤ e → NextDue x from e → nextOf x from ≡ none
+  next-none {from} {e} high next = turn (nextOf x from) (next-known from _ refl)
+    where
+      turn : (o : Option ℕ) → Known from o → o ≡ none
+      turn (some d) known = absurd (not-none d e (known .0) high (known .1) next)
+      turn none known = refl
+
+  -- and with room it is given
+  pub send-given : (from : ℕ) (l : List ℕ) {o : Option ℕ} → noteLength ≤ length l → nextOf x from ≡ o → gives o ≡ firstOf (sendCases (length l)) (nextOf x from)
+  send-given from l room next = ap gives (sym next) ∙ sym (first-fails _ _ _ (le-ltb _ _ room) ∙ first-none _)
 
   -- a site that has to work does not rest, and one that has worked rests exactly if none is due from 0 on
   pub not-idle : x .idle ≡ false → restful x ≡ false

@@ -1,21 +1,19 @@
 -- Two results that meet a contract are the same. Where a contract is an equation for the result there is nothing to show; these are the others.
 use mathlib.Core.Path.{_≡_, refl, sym, ap, _∙_}
-use mathlib.Core.Bool.{Bool, true, false, cond}
+use mathlib.Core.Bool.{cond}
+use mathlib.Core.Option.{Option, none, some}
 use mathlib.Core.List.{List}
-use Prim.Native.Nat.{ℕ, _<_}
+use Prim.Native.Nat.{ℕ}
 use native.Mathlib.Omega.{arith}
-use borrow.Author.Tests.{ltb-true, ltb-false}
-use lib.Dec.{ltb, eqb}
-use lib.Seq.{sets}
-use Rattle.wac.specs.Limits.{entries}
+use lib.Dec.{eqb}
 use Rattle.wac.specs.Answers.{Answer, gives, refuses}
 use Rattle.wac.proofs.Cases.{gives-not-refuses}
 use Rattle.wac.proofs.Unique.{told-apart}
 use Rattle.decision.specs.declared.request.Request.{Request}
 use Rattle.decision.specs.declared.question.Admitted.the-variants as admits
 use Rattle.decision.proofs.Unique.{admit-unique, settles-unique}
-use Rattle.sites.specs.Notes.{raiseKind, noteFrom, noteBytes}
-use Rattle.sites.specs.Site.{blankSite, Opens, workedSite, Works, takenAs, siteAfter, bytesAfter, Takes, raiseOf, NextDue, Sends}
+use Rattle.sites.specs.Notes.{raiseKind, noteFrom}
+use Rattle.sites.specs.Site.{blankSite, Opens, workedSite, Works, takenAs, siteAfter, bytesAfter, Takes, sendingAs, bytesSent, Sends}
 use Rattle.sites.specs.declared.site.Site.{Site}
 use Rattle.sites.specs.declared.site.Opening.{Opening}
 use Rattle.sites.specs.declared.site.Opened.the-variants as opens
@@ -62,38 +60,36 @@ taken-back (takens.Refused Form) = refl
 taken-back (takens.Refused Session) = refl
 taken-back (takens.Refused Later) = refl
 
+pub taken-apart : (r r′ : Taken) → takenAs r ≡ takenAs r′ → r ≡ r′
+taken-apart = told-apart takenAs taken-of taken-back
+
 -- `take`: one answer, one site, and one receipt
 pub takes-unique : {x : Site} {b l : List ℕ} (r r′ : Taking) {l₁ l₂ : List ℕ} → Takes x b l r l₁ → Takes x b l r′ l₂ → (r ≡ r′) × (l₁ ≡ l₂)
 takes-unique {x} {b} {l} r r′ t t′ =
-    let same : r .answer ≡ r′ .answer = told-apart takenAs taken-of taken-back (r .answer) (r′ .answer) (t .answer ∙ sym (t′ .answer)) in
+    let same = taken-apart (r .answer) (r′ .answer) (t .answer ∙ sym (t′ .answer)) in
     let site : r .site ≡ r′ .site = t .site ∙ ap (λ a. siteAfter a x (noteFrom b)) same ∙ sym (t′ .site) in
     (both same site, t .bytes ∙ ap (λ a. bytesAfter a l (noteFrom b)) same ∙ sym (t′ .bytes))
   where
     both : {a a′ : Taken} {s s′ : Site} → a ≡ a′ → s ≡ s′ → _≡_ {A = Taking} (record { answer = a; site = s }) (record { answer = a′; site = s′ })
     both e f = rw (e, f)
 
+sending-of : Answer (Option ℕ) → Sending
+sending-of (gives (some e)) = sendings.Note e
+sending-of (gives none) = sendings.Nothing
+sending-of (refuses n vs) = sendings.Refused
+
+sending-back : (r : Sending) → sending-of (sendingAs r) ≡ r
+unfolding sending-of
+sending-back (sendings.Note e) = refl
+sending-back sendings.Nothing = refl
+sending-back sendings.Refused = refl
+
+pub sending-apart : (r r′ : Sending) → sendingAs r ≡ sendingAs r′ → r ≡ r′
+sending-apart = told-apart sendingAs sending-of sending-back
+
 -- `next`: one answer, and one note
-module _ {x : Site} {from : ℕ} where
-  next-unique : (e e′ : ℕ) → e < entries → e′ < entries → NextDue x from e → NextDue x from e′ → e ≡ e′
-  next-unique e e′ low low′ next next′ = turn (ltb e e′) refl (ltb e′ e) refl
-    where
-      turn : (t : Bool) → ltb e e′ ≡ t → (t′ : Bool) → ltb e′ e ≡ t′ → e ≡ e′
-      turn true h t′ h′ = let due = next .due low in absurd (next′ .before e (due .0) (ltb-true _ _ h) low (due .1))
-      turn false h true h′ = let due = next′ .due low′ in absurd (next .before e′ (due .0) (ltb-true _ _ h′) low′ (due .1))
-      turn false h false h′ = omega (arith, ltb-false e e′ h, ltb-false e′ e h′)
-
-  not-none : (e : ℕ) → e < entries → NextDue x from e → NextDue x from entries → ⊥
-  not-none e low next none = let due = next .due low in none .before e (due .0) low low (due .1)
-
-  pub sends-unique : {l : List ℕ} {r r′ : Sending} {l₁ l₂ : List ℕ} → Sends x from l r l₁ → Sends x from l r′ l₂ → (r ≡ r′) × (l₁ ≡ l₂)
-  sends-unique (Sends.refused few e same) (Sends.refused few′ e′ same′) = (e ∙ sym e′, same ∙ sym same′)
-  sends-unique (Sends.refused few e same) (Sends.note room e₁ low next e′ same′) = absurd (omega arith)
-  sends-unique (Sends.refused few e same) (Sends.nothing room next e′ same′) = absurd (omega arith)
-  sends-unique (Sends.note room e₁ low next e same) (Sends.refused few e′ same′) = absurd (omega arith)
-  sends-unique {l} (Sends.note room e₁ low next e same) (Sends.note room′ e₂ low′ next′ e′ same′) =
-      let one = next-unique e₁ e₂ low low′ next next′ in
-      (e ∙ ap sendings.Note one ∙ sym e′, same ∙ ap (λ i. sets l 0 (noteBytes (raiseOf x i))) one ∙ sym same′)
-  sends-unique (Sends.note room e₁ low next e same) (Sends.nothing room′ next′ e′ same′) = absurd (not-none e₁ low next next′)
-  sends-unique (Sends.nothing room next e same) (Sends.refused few e′ same′) = absurd (omega arith)
-  sends-unique (Sends.nothing room next e same) (Sends.note room′ e₁ low next′ e′ same′) = absurd (not-none e₁ low next′ next)
-  sends-unique (Sends.nothing room next e same) (Sends.nothing room′ next′ e′ same′) = (e ∙ sym e′, same ∙ sym same′)
+pub sends-unique : {x : Site} {from : ℕ} {l : List ℕ} {r r′ : Sending} {l₁ l₂ : List ℕ} → Sends x from l r l₁ → Sends x from l r′ l₂ →
+    (r ≡ r′) × (l₁ ≡ l₂)
+sends-unique {x} {from} {l} {r} {r′} s s′ =
+    let same = sending-apart r r′ (s .answer ∙ sym (s′ .answer)) in
+    (same, s .bytes ∙ ap (λ r. bytesSent r x l) same ∙ sym (s′ .bytes))

@@ -1,8 +1,9 @@
 -- What each function makes of a site: document 01, "Two sites" and the rows 20 to 28 of "What comes back".
 use mathlib.Core.Path.{_≡_}
-use mathlib.Core.Bool.{Bool, true, false, not, _&&_}
+use mathlib.Core.Bool.{Bool, true, false, cond, not, _&&_}
+use mathlib.Core.Option.{Option, none, some}
 use mathlib.Core.List.{List, [], _∷_, _++_}
-use Prim.Native.Nat.{ℕ, _≤_, _<_, min, max}
+use Prim.Native.Nat.{ℕ, zero, suc, _+_, _-_, _≤_, _<_, min, max}
 use lib.Dec.{leb, ltb, eqb}
 use lib.ListN.{length, getD, take, drop, set, replicate}
 use lib.Seq.{sets}
@@ -188,11 +189,35 @@ pub record NextDue (x : Site) (from e : ℕ) : Type 0 where
 abbrev pub raiseOf : Site → ℕ → Note
 raiseOf x e = record { session = x .session; kind = raiseKind; key = keyOf e; symbol = symbolOf e; arrival = arrivalOf e; minute = minuteAt x e }
 
--- the next note from an entry number on: 23; the lowest entry that waits, its note in the first 12 lent bytes; or none
-pub data Sends (x : Site) (from : ℕ) (l : List ℕ) (r : Sending) (l′ : List ℕ) : Type 0 where
-  refused : length l < noteLength → r ≡ sendings.Refused → l′ ≡ l → Sends x from l r l′
-  note : noteLength ≤ length l → (e : ℕ) → e < entries → NextDue x from e → r ≡ sendings.Note e → l′ ≡ sets l 0 (noteBytes (raiseOf x e)) → Sends x from l r l′
-  nothing : noteLength ≤ length l → NextDue x from entries → r ≡ sendings.Nothing → l′ ≡ l → Sends x from l r l′
+-- the lowest of n entries from `from` on that waits to be sent, if one does
+unfoldable pub waiting : Site → ℕ → ℕ → Option ℕ
+waiting x from zero = none
+waiting x from (suc n) = cond (ltb (receiptedAt x from) (minuteAt x from)) (some from) (waiting x (from + 1) n)
+
+-- the entry whose note is next, from an entry number on: none if there is none, or the number is above 2,591
+abbrev pub nextOf : Site → ℕ → Option ℕ
+nextOf x from = waiting x from (entries - from)
+
+-- what is sent comes back as the entry whose note is written, or as none, or as the refusal's number
+abbrev pub sendingAs : Sending → Answer (Option ℕ)
+sendingAs (sendings.Note e) = gives (some e)
+sendingAs sendings.Nothing = gives none
+sendingAs sendings.Refused = refuses 23 []
+
+-- the refusals of sending: the lent note's room
+abbrev pub sendCases : ℕ → List Case
+sendCases room = (23 if ltb room noteLength) ∷ []
+
+-- the lent bytes after sending: the entry's note in the first 12
+abbrev pub bytesSent : Sending → Site → List ℕ → List ℕ
+bytesSent (sendings.Note e) x l = sets l 0 (noteBytes (raiseOf x e))
+bytesSent sendings.Nothing x l = l
+bytesSent sendings.Refused x l = l
+
+-- the next note from an entry number on: the first refusal that holds or the entry, and what the lent bytes then are
+pub record Sends (x : Site) (from : ℕ) (l : List ℕ) (r : Sending) (l′ : List ℕ) : Type 0 where
+  pub answer : sendingAs r ≡ firstOf (sendCases (length l)) (nextOf x from)
+  pub bytes : l′ ≡ bytesSent r x l
 
 -- rest: it has worked since it was opened and since the last rise, and no entry's minute is above its receipted minute
 unfoldable pub restful : Site → Bool
