@@ -1,3 +1,4 @@
 -- The laws of the codes, beside the proofs of their functions.
 pub mod BitsLaws
+pub mod Codes
 pub mod Unique

@@ -2,12 +2,11 @@
 use mathlib.Core.Path.{_≡_}
 use mathlib.Core.List.{List, [], _∷_, _++_}
 use Prim.Native.Nat.{ℕ, _+_, _*_, _%_}
-use lib.Dec.{ltb}
+use lib.Dec.{leb, ltb}
 use lib.ListN.{length, getD, drop}
 use Rattle.wac.specs.Limits.{recordBytes}
 use Rattle.wac.specs.Answers.{Answer, gives, refuses, Case, _if_, firstOf}
-use Rattle.wac.specs.File.{certAt}
-use Rattle.wac.specs.View.{fetchCases}
+use Rattle.wac.specs.File.{countOf, certAt, fileCases}
 use Rattle.wac.specs.Writer.{appendCases, left}
 use Rattle.wac.specs.declared.cert.Cert.{Cert}
 
@@ -45,9 +44,9 @@ fieldsOf c =
     c .kind ∷ c .issuer ∷ c .left ∷ c .subject ∷ c .count ∷ c .ids .0 ∷ c .ids .1 ∷ c .ids .2 ∷ c .mark ∷ c .rights
     ∷ c .«not_before» ∷ c .«not_after» ∷ []
 
--- the refusals of fetching certificate n into so many lent places: the places first
+-- the refusals of fetching certificate n into so many lent places: the whole file's, too few places, no such number
 unfoldable pub lentCases : List ℕ → ℕ → ℕ → List Case
-lentCases s n places = (23 if ltb places fields) ∷ fetchCases s n
+lentCases s n places = fileCases s ++ (23 if ltb places fields) ∷ (24 if leb (countOf s) n) ∷ []
 
 -- an answer that gives a certificate: 0, or the refusal's number and its record
 abbrev pub certCoded : Answer Cert → ℕ

@@ -16,7 +16,7 @@ ghost use mathlib.Core.List.{_++_};
 ghost use Prim.Native.Nat.{_≤_};
 ghost use lib.ListN.{length, drop};
 ghost use Rattle.wac.specs.Answers.{firstOf, numberOf, recordOf};
-ghost use Rattle.wac.specs.File.{frameCases, fileCases, countOf, checked};
+ghost use Rattle.wac.specs.File.{fileCases, countOf, checked};
 ghost use Rattle.boundary.specs.Coded.{code, coded, certOf, fields, fieldsOf, FetchCoded, AppendCoded};
 
 // How many fields a certificate has.
@@ -54,12 +54,12 @@ pub extern "C" fn wac_check(file: &[u8]) -> u32
     checked_code(wac::check(file))
 }
 
-// `wac::count_in`: the count by the frame alone, or 10 to 14.
+// What a view of the file counts, which is what its check finds: the count, or 10 to 15.
 #[no_mangle]
 pub extern "C" fn wac_count(file: &[u8]) -> u32
-    ensures { λ r. ⌜ r ≡ coded (firstOf (frameCases (now (file .entry))) (countOf (now (file .entry)))) ⌝ }
+    ensures { λ r. ⌜ r ≡ coded (firstOf (fileCases (now (file .entry))) (countOf (now (file .entry)))) ⌝ }
 {
-    checked_code(wac::count_in(file))
+    wac_check(file)
 }
 
 // Writes a certificate's fields to the first 12 lent places, and no others.
@@ -82,12 +82,15 @@ fn fill(lent: &mut [u32], cert: Cert)
     lent[11] = cert.not_after;
 }
 
-// `wac::fetch_in`: certificate n, its fields in the first 12 lent places; 23 where under 12 are lent,
-// then 10 to 14, 24 and 15. A refused call writes nothing.
+// `wac::fetch_in`: certificate n, its fields in the first 12 lent places; or 10 to 15 as `wac_check`,
+// 23 where under 12 places are lent, 24. A refused call writes nothing.
 #[no_mangle]
 pub extern "C" fn wac_fetch(file: &[u8], n: usize, lent: &mut [u32]) -> u32
     ensures { λ r. ⌜ FetchCoded (now (file .entry)) n (now (lent .entry)) r (now (lent .exit)) ⌝ }
 {
+    if let Checked::Refused(why) = wac::check(file) {
+        return refusal_code(why);
+    }
     if lent.len() < FIELDS {
         return code_of(23, 0);
     }

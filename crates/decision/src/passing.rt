@@ -4,8 +4,8 @@ use crate::lens;
 use crate::lens::Lens;
 use crate::reading;
 use crate::request::Request;
+use wac::Alone;
 use wac::Cert;
-use wac::Fetched;
 use wac::Table;
 ghost use mathlib.Core.Path.{_≡_};
 ghost use mathlib.Core.Bool.{true};
@@ -49,12 +49,12 @@ fn pass_over(lens: Lens, file: &[u8], request: Request, count: usize, old: &[u32
     ensures { λ _. ⌜ Passed lens (now (file .entry)) request (now (old .entry)) (now (new .entry)) (now (new .exit)) ⌝ }
 {
     for i in 0..count {
-        let found = wac::fetch_in(file, i);
+        let found = wac::record_alone(file, i);
         match found {
-            Fetched::Certificate(cert) => if lens::is_live(lens, request, cert) {
+            Alone::Certificate(cert) => if lens::is_live(lens, request, cert) {
                 try_cert(lens, old, new, cert);
             },
-            Fetched::Refused(_) => {}
+            Alone::Refused(_) => {}
         }
     }
 }

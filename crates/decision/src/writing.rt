@@ -5,8 +5,8 @@ use crate::lens;
 use crate::lens::Lens;
 use crate::reading;
 use crate::request::Request;
+use wac::Alone;
 use wac::Cert;
-use wac::Fetched;
 use wac::Table;
 ghost use mathlib.Core.Path.{_≡_};
 ghost use mathlib.Core.Bool.{true};
@@ -43,8 +43,8 @@ fn brings_by(
     ensures { λ r. ⌜ r ≡ brings (now (file .entry)) request floor (now (table .entry)) i key symbol place ⌝ }
 {
     let lens = Lens::Steps(floor);
-    let found = wac::fetch_in(file, i);
-    let Fetched::Certificate(cert) = found else {
+    let found = wac::record_alone(file, i);
+    let Alone::Certificate(cert) = found else {
         return false;
     };
     if !lens::is_live(lens, request, cert) {
@@ -125,8 +125,8 @@ pub fn expand_entry(
         return at;
     }
     let i = find_cert(file, request, floor, count, table, key, symbol, place);
-    let found = wac::fetch_in(file, i);
-    let Fetched::Certificate(cert) = found else {
+    let found = wac::record_alone(file, i);
+    let Alone::Certificate(cert) = found else {
         return at;
     };
     chain[at] = (i % 256) as u8;

@@ -86,17 +86,19 @@ module _ (s : List ℕ) where
       ∙ first-fails _ _ _ (ap not (eq-eqb _ _ sized))
       ∙ first-none _
 
+  -- a lawful file is accepted with its count
+  pub lawful-accepted : LawfulFile s → firstOf (fileCases s) (countOf s) ≡ gives (countOf s)
+  unfolding lowestBad certAt
+  lawful-accepted h =
+      let none = lowest-none (countOf s) (λ i. not (recordOk (recordAt s i))) (λ i l. ap not (lawful-kept (recordAt s i) (h .lawful i l))) in
+      file-accepted (framed-accepted (h .framed)) (le-of-eq (sym none))
+
   -- `check` accepts exactly the lawful files, with their count
   pub accepted-iff-lawful : AreBytes s → (n : ℕ) → (firstOf (fileCases s) (countOf s) ≡ gives n) ↔ (LawfulFile s × (countOf s ≡ n))
-  unfolding lowestBad certAt
-  accepted-iff-lawful bytes n = (to, back)
+  unfolding certAt
+  accepted-iff-lawful bytes n = (to, λ h. lawful-accepted (h .0) ∙ ap gives (h .1))
     where
       to : firstOf (fileCases s) (countOf s) ≡ gives n → LawfulFile s × (countOf s ≡ n)
       to e =
           let kept = file-kept e in
           (record { framed = kept .0; lawful = λ i l. kept-lawful (recordAt s i) (bytes-dated (recordAt s i) (drop-bytes s (placeOf i) bytes)) (kept .2 i l) }, kept .1)
-
-      back : LawfulFile s × (countOf s ≡ n) → firstOf (fileCases s) (countOf s) ≡ gives n
-      back h =
-          let none = lowest-none (countOf s) (λ i. not (recordOk (recordAt s i))) (λ i l. ap not (lawful-kept (recordAt s i) (h .0 .lawful i l))) in
-          file-accepted (framed-accepted (h .0 .framed)) (le-of-eq (sym none)) ∙ ap gives (h .1)

@@ -65,6 +65,16 @@ lowest-found (suc n) p (suc i) l t h =
     rw (h zero (omega arith))
     (ap suc (lowest-found n (λ k. p (suc k)) i (le-of-suc-le-suc l) t (λ k m. h (suc k) (omega arith))))
 
+-- the lowest number that passes is at most n
+pub lowest-most : (n : ℕ) (p : ℕ → Bool) → lowest n p ≤ n
+unfolding lowest
+lowest-most zero p = omega arith
+lowest-most (suc n) p = turn (p zero) (lowest-most n (λ k. p (suc k)))
+  where
+    turn : (b : Bool) {m : ℕ} → m ≤ n → cond b zero (suc m) ≤ suc n
+    turn true l = omega arith
+    turn false l = omega arith
+
 -- a test whose negation fails holds
 pub not-not : (b : Bool) → not b ≡ false → b ≡ true
 not-not true e = refl

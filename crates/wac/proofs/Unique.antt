@@ -3,17 +3,21 @@ use mathlib.Core.Path.{_≡_, refl, sym, ap, _∙_}
 use mathlib.Core.Bool.{cond}
 use mathlib.Core.List.{List, [], _∷_}
 use Prim.Native.Nat.{ℕ}
+use denote.Ref.{RefT}
 use lib.Dec.{eqb}
 use lib.ListN.{getD}
 use Rattle.wac.specs.Answers.{Answer, gives, refuses, numberOf, valuesOf}
 use Rattle.wac.specs.File.{checked}
-use Rattle.wac.specs.View.{fetched, FetchedFrom}
+use Rattle.wac.specs.View.{alone, fetched, ReadAlone, ViewOf, FetchedBy, FetchedFrom}
 use Rattle.wac.specs.Writer.{appended, AppendedTo}
 use Rattle.wac.specs.declared.cert.Cert.{Cert}
 use Rattle.wac.specs.declared.refusal.Refusal.{Refusal}
 use Rattle.wac.specs.declared.refusal.Refusal.the-variants.{Short, NotWac, Version, TooMany, Length, Against, Room, NoSuch}
 use Rattle.wac.specs.declared.file.Checked.{Checked}
 use Rattle.wac.specs.declared.file.Checked.the-variants as checks
+use Rattle.wac.specs.declared.view.View.{View}
+use Rattle.wac.specs.declared.view.Alone.{Alone}
+use Rattle.wac.specs.declared.view.Alone.the-variants as alones
 use Rattle.wac.specs.declared.view.Fetched.{Fetched}
 use Rattle.wac.specs.declared.view.Fetched.the-variants as fetches
 use Rattle.wac.specs.declared.writer.Appended.{Appended}
@@ -51,9 +55,29 @@ unfolding checked-of
 checked-back (checks.Accepted n) = refl
 checked-back (checks.Refused why) = ap checks.Refused (refusal-back why)
 
--- `check`, `count_in` and `count`: one answer, one result
+-- `check`: one answer, one result
 pub check-unique : (r q : Checked) (a : Answer ℕ) → checked r ≡ a → checked q ≡ a → r ≡ q
 check-unique r q a e f = told-apart checked checked-of checked-back r q (e ∙ sym f)
+
+-- `view_of`: one view
+pub view-unique : (lent : RefT (List ℕ)) (v w : View) → ViewOf lent v → ViewOf lent w → v ≡ w
+view-unique lent v w e f =
+    let file : v .file ≡ w .file = e .file ∙ sym (f .file) in
+    let kept : v .kept ≡ w .kept = check-unique (v .kept) (w .kept) _ (e .kept) (f .kept) in
+    λ i. record { file = file i; kept = kept i }
+
+alone-of : Answer Cert → Alone
+alone-of (gives c) = alones.Certificate c
+alone-of (refuses n vs) = alones.Refused (refusal-of n vs)
+
+alone-back : (r : Alone) → alone-of (alone r) ≡ r
+unfolding alone-of
+alone-back (alones.Certificate c) = refl
+alone-back (alones.Refused why) = ap alones.Refused (refusal-back why)
+
+-- `record_alone`: one result
+pub alone-unique : (s : List ℕ) (n : ℕ) (r q : Alone) → ReadAlone s n r → ReadAlone s n q → r ≡ q
+alone-unique s n r q e f = told-apart alone alone-of alone-back r q (e .answer ∙ sym (f .answer))
 
 fetched-of : Answer Cert → Fetched
 fetched-of (gives c) = fetches.Certificate c
@@ -64,9 +88,13 @@ unfolding fetched-of
 fetched-back (fetches.Certificate c) = refl
 fetched-back (fetches.Refused why) = ap fetches.Refused (refusal-back why)
 
--- `fetch_in` and `fetch`: one result
+-- `fetch_in`: one result
 pub fetch-unique : (s : List ℕ) (n : ℕ) (r q : Fetched) → FetchedFrom s n r → FetchedFrom s n q → r ≡ q
 fetch-unique s n r q e f = told-apart fetched fetched-of fetched-back r q (e .answer ∙ sym (f .answer))
+
+-- `fetch`: one result, whatever the view holds
+pub fetched-by-unique : (kept : Checked) (s : List ℕ) (n : ℕ) (r q : Fetched) → FetchedBy kept s n r → FetchedBy kept s n q → r ≡ q
+fetched-by-unique kept s n r q e f = told-apart fetched fetched-of fetched-back r q (e .answer ∙ sym (f .answer))
 
 appended-of : Answer ℕ → Appended
 appended-of (gives n) = appends.Used n

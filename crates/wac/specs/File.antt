@@ -11,6 +11,8 @@ use Rattle.wac.specs.Answers.{Answer, gives, Case, _if_, _of_if_, firstO
 use Rattle.wac.specs.Ranges.{recordOk}
 use Rattle.wac.specs.Record.{certFrom, bytesOf, Lawful}
 use Rattle.wac.specs.declared.cert.Cert.{Cert}
+use Rattle.wac.specs.declared.file.Frame.{Frame}
+use Rattle.wac.specs.declared.file.Frame.the-variants as frames
 use Rattle.wac.specs.declared.file.Checked.{Checked}
 use Rattle.wac.specs.declared.file.Checked.the-variants.{Accepted, Refused}
 
@@ -56,6 +58,11 @@ frameCases s =
     ∷ (13 if ltb certificates (countOf s))
     ∷ (14 if not (eqb (length s) (placeOf (countOf s))))
     ∷ []
+
+-- what each answer of a look at the frame comes back as
+abbrev pub framed : Frame → Answer ℕ
+framed (frames.Count n) = gives n
+framed (frames.Refused why) = refused why
 
 -- the refusals of a whole file
 unfoldable pub fileCases : List ℕ → List Case

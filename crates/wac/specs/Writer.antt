@@ -47,3 +47,13 @@ left (refuses n vs) b used c = b
 pub record AppendedTo (b : List ℕ) (used : ℕ) (c : Cert) (r : Appended) (b′ : List ℕ) : Type 0 where
   pub answer : appended r ≡ firstOf (appendCases b used c) (used + recordBytes)
   pub buffer : b′ ≡ left (firstOf (appendCases b used c) (used + recordBytes)) b used c
+
+-- the used length after an answer: the new one; where the call is refused the old one
+abbrev pub usedAfter : ℕ → Appended → ℕ
+usedAfter used (Used n) = n
+usedAfter used (Refused why) = used
+
+-- appending certificates in turn, each to what the call before it left: from b with so many bytes used to b′ with used′
+abbrev pub InTurn : List Cert → List ℕ → ℕ → List ℕ → ℕ → Type 0
+InTurn [] b used b′ used′ = (b′ ≡ b) × (used′ ≡ used)
+InTurn (c ∷ cs) b used b′ used′ = (r : Appended) × (b₁ : List ℕ) × AppendedTo b used c r b₁ × InTurn cs b₁ (usedAfter used r) b′ used′

@@ -18,8 +18,17 @@ ghost use Rattle.wac.specs.File.{
   lowestBad,
   frameCases,
   fileCases,
+  framed,
   checked,
 };
+
+// What a file's frame says, its header and its length.
+pub enum Frame {
+    // The frame is in order, with its count. The records are not looked at.
+    Count(usize),
+    // The frame is refused.
+    Refused(Refusal),
+}
 
 // What a check of a file finds.
 pub enum Checked {
@@ -43,29 +52,28 @@ fn marked(file: &[u8]) -> bool
     file[2] == b'C'
 }
 
-// The count by the file's frame alone, its header and its length: accepted with its count, or
-// refused by 10 to 14. The records are not looked at.
-pub fn count_in(file: &[u8]) -> Checked
-    ensures { λ r. ⌜ checked r ≡ firstOf (frameCases (now (file .entry))) (countOf (now (file .entry))) ⌝ }
+// What the file's frame says: its count, or 10 to 14.
+pub fn frame_of(file: &[u8]) -> Frame
+    ensures { λ r. ⌜ framed r ≡ firstOf (frameCases (now (file .entry))) (countOf (now (file .entry))) ⌝ }
 {
     if file.len() < Table::HEADER {
-        return Checked::Refused(Refusal::Short);
+        return Frame::Refused(Refusal::Short);
     }
     if !marked(file) {
-        return Checked::Refused(Refusal::NotWac);
+        return Frame::Refused(Refusal::NotWac);
     }
     if bytes::half_of(file[3], file[4]) != Table::VERSION {
-        return Checked::Refused(Refusal::Version);
+        return Frame::Refused(Refusal::Version);
     }
     let count = file[5] as usize;
     let size = Table::HEADER + Table::RECORD * count;
     if Table::CERTIFICATES < count {
-        return Checked::Refused(Refusal::TooMany);
+        return Frame::Refused(Refusal::TooMany);
     }
     if file.len() != size {
-        return Checked::Refused(Refusal::Length);
+        return Frame::Refused(Refusal::Length);
     }
-    Checked::Accepted(count)
+    Frame::Count(count)
 }
 
 // The lowest number of a record that is against the table, and the count where there is none.
@@ -88,13 +96,16 @@ fn lowest_bad(file: &[u8], count: usize) -> usize
 pub fn check(file: &[u8]) -> Checked
     ensures { λ r. ⌜ checked r ≡ firstOf (fileCases (now (file .entry))) (countOf (now (file .entry))) ⌝ }
 {
-    let framed = count_in(file);
-    let Checked::Accepted(count) = framed else {
-        return framed;
-    };
-    let bad = lowest_bad(file, count);
-    if bad < count {
-        return Checked::Refused(Refusal::Against(bad));
+    let found = frame_of(file);
+    match found {
+        Frame::Count(count) => {
+            let bad = lowest_bad(file, count);
+            if bad < count {
+                Checked::Refused(Refusal::Against(bad))
+            } else {
+                Checked::Accepted(count)
+            }
+        }
+        Frame::Refused(why) => Checked::Refused(why),
     }
-    Checked::Accepted(count)
 }

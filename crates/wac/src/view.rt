@@ -1,8 +1,10 @@
-// A small view of the file, and the certificates read where the lent file holds them.
+// One record read alone where the lent file holds it, and the small view by which a file's
+// certificates are fetched: the view holds the lent file and what its check found.
 use crate::cert;
 use crate::cert::Cert;
 use crate::file;
 use crate::file::Checked;
+use crate::file::Frame;
 use crate::limits::Table;
 use crate::record;
 use crate::refusal::Refusal;
@@ -11,8 +13,45 @@ ghost use Prim.Native.Nat.{_+_, _*_, _≤_};
 ghost use lib.ListN.{length};
 ghost use Rattle.wac.specs.Limits.{headerBytes, recordBytes, certificates};
 ghost use Rattle.wac.specs.Answers.{firstOf};
-ghost use Rattle.wac.specs.File.{frameCases, countOf, certAt, checked};
-ghost use Rattle.wac.specs.View.{numberCases, fetched, FetchedFrom};
+ghost use Rattle.wac.specs.File.{certAt};
+ghost use Rattle.wac.specs.View.{numberCases, alone, ReadAlone, ViewOf, FetchedBy, FetchedFrom};
+
+// What reading one record alone finds. The other records are not looked at, so a certificate here
+// does not say that the file is accepted.
+pub enum Alone {
+    // The record's certificate.
+    Certificate(Cert),
+    // The record is not read.
+    Refused(Refusal),
+}
+
+// Record n alone, of a file whose frame is in order and has this count.
+fn record_below(file: &[u8], count: usize, n: usize) -> Alone
+    requires { ⌜ (count ≤ certificates) × (headerBytes + recordBytes * count ≤ length (now file)) ⌝ }
+    ensures { λ r. ⌜ alone r ≡ firstOf (numberCases (now (file .entry)) count n) (certAt (now (file .entry)) n) ⌝ }
+{
+    if count <= n {
+        return Alone::Refused(Refusal::NoSuch);
+    }
+    let at = Table::HEADER + Table::RECORD * n;
+    if !record::record_ok(file, at) {
+        return Alone::Refused(Refusal::Against(n));
+    }
+    Alone::Certificate(cert::cert_at(file, at))
+}
+
+// Record n alone, in constant time: its certificate; or 10 to 14 by the frame, 24 where the number is
+// not below the count, 15 with this number where this one record is against the table. It is for
+// callers that have checked the file: then it gives every certificate below the count.
+pub fn record_alone(file: &[u8], n: usize) -> Alone
+    ensures { λ r. ⌜ ReadAlone (now (file .entry)) n r ⌝ }
+{
+    let framed = file::frame_of(file);
+    match framed {
+        Frame::Count(count) => record_below(file, count, n),
+        Frame::Refused(why) => Alone::Refused(why),
+    }
+}
 
 // What fetching a certificate by its number finds.
 pub enum Fetched {
@@ -22,61 +61,53 @@ pub enum Fetched {
     Refused(Refusal),
 }
 
-// Certificate n of a file whose frame is in order and has this count.
-fn fetch_below(file: &[u8], count: usize, n: usize) -> Fetched
-    requires { ⌜ (count ≤ certificates) × (headerBytes + recordBytes * count ≤ length (now file)) ⌝ }
-    ensures { λ r. ⌜ fetched r ≡ firstOf (numberCases (now (file .entry)) count n) (certAt (now (file .entry)) n) ⌝ }
+// What a view that keeps this answer of a check fetches: the answer's refusal, else what record n
+// alone gives.
+fn fetch_kept(file: &[u8], kept: Checked, n: usize) -> Fetched
+    ensures { λ r. ⌜ FetchedBy kept (now (file .entry)) n r ⌝ }
 {
-    if count <= n {
-        return Fetched::Refused(Refusal::NoSuch);
+    if let Checked::Refused(why) = kept {
+        return Fetched::Refused(why);
     }
-    let at = Table::HEADER + Table::RECORD * n;
-    if !record::record_ok(file, at) {
-        return Fetched::Refused(Refusal::Against(n));
-    }
-    Fetched::Certificate(cert::cert_at(file, at))
-}
-
-// The work: certificate n of any file.
-fn fetch_at(file: &[u8], n: usize) -> Fetched
-    ensures { λ r. ⌜ FetchedFrom (now (file .entry)) n r ⌝ }
-{
-    let framed = file::count_in(file);
-    match framed {
-        Checked::Accepted(count) => fetch_below(file, count, n),
-        Checked::Refused(why) => Fetched::Refused(why),
+    let found = record_alone(file, n);
+    match found {
+        Alone::Certificate(cert) => Fetched::Certificate(cert),
+        Alone::Refused(why) => Fetched::Refused(why),
     }
 }
 
-// A small view of the file.
+// A small view of a file: the lent file, and what `check` found of it.
 pub struct View<'a> {
-    pub file: &'a [u8],
+    file: &'a [u8],
+    kept: Checked,
 }
 
-// The view of a lent file.
+// The view of a lent file, which is checked here once.
 pub fn view_of<'a>(file: &'a [u8]) -> View<'a>
-    ensures { λ r. ⌜ r .file ≡ file .entry ⌝ }
+    ensures { λ r. ⌜ ViewOf (file .entry) r ⌝ }
 {
-    View { file }
+    View {
+        file,
+        kept: file::check(file),
+    }
 }
 
-// The count of the file that the view holds, by its frame alone, or 10 to 14.
+// What the view's check found: the count of an accepted file, or 10 to 15.
 pub fn count<'a>(view: View<'a>) -> Checked
-    ensures { λ r. ⌜ checked r ≡ firstOf (frameCases (now (view .entry .file))) (countOf (now (view .entry .file))) ⌝ }
+    ensures { λ r. ⌜ r ≡ view .entry .kept ⌝ }
 {
-    file::count_in(view.file)
+    view.kept
 }
 
-// Certificate n of the file that the view holds, read in constant time; or 10 to 14 by the frame,
-// 24 where the number is not below the count, 15 with the number where this record is against the
-// table.
+// Certificate n of the file that the view holds, in constant time: 10 to 15 as its check found, then
+// 24 where the number is not below the count.
 pub fn fetch<'a>(view: View<'a>, n: usize) -> Fetched
-    ensures { λ r. ⌜ FetchedFrom (now (view .entry .file)) n r ⌝ }
+    ensures { λ r. ⌜ FetchedBy (view .entry .kept) (now (view .entry .file)) n r ⌝ }
 {
-    fetch_at(view.file, n)
+    fetch_kept(view.file, view.kept, n)
 }
 
-// The same for a caller that has the lent file itself.
+// The same for a caller that has the lent file itself: it is checked as a whole at each call.
 pub fn fetch_in(file: &[u8], n: usize) -> Fetched
     ensures { λ r. ⌜ FetchedFrom (now (file .entry)) n r ⌝ }
 {

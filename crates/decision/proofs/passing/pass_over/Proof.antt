@@ -20,8 +20,8 @@ abbrev μ-loop : tie.MeasureT-loop
 loop-holds : tie.Need-loop-holds Inv-loop μ-loop
 loop-holds c = let p = c .before .before .before .pre in (search needs, passing-none _ _ _ _ _ (p .4) (p .5))
 
-fetch-in-requires : tie.Need-fetch-in-requires Inv-loop μ-loop
-fetch-in-requires c κs = search needs
+record-alone-requires : tie.Need-record-alone-requires Inv-loop μ-loop
+record-alone-requires c κs = search needs
 
 enum-known-found : tie.Need-enum-known-found Inv-loop μ-loop
 enum-known-found c = search needs
@@ -31,7 +31,7 @@ is-live-requires c κs = search needs
 
 try-cert-requires : tie.Need-try-cert-requires Inv-loop μ-loop
 try-cert-requires c κs =
-    (c .before .before .before .before .before .before .before .before .before .before .before .before .pre .3, c .before .before .before .before .before .before .before .before .loop .inv .1 .within, fetched-lawful (c .before .before .before .before .before .before .fetch-in .ensures) (c .before .before .before .before .found .given .1))
+    (c .before .before .before .before .before .before .before .before .before .before .before .before .pre .3, c .before .before .before .before .before .before .before .before .loop .inv .1 .within, fetched-lawful (c .before .before .before .before .before .before .record-alone .ensures) (c .before .before .before .before .found .given .1))
 
 enum-told : tie.Need-enum-told Inv-loop μ-loop
 enum-told c = search needs
@@ -47,7 +47,7 @@ loop-again c =
     let a = c .before .before .before .before .before .before .before .args in
     let p = c .before .before .before .before .before .before .before .pre in
     let h = c .before .before .before .loop in
-    let from = c .before .fetch-in .ensures in
+    let from = c .before .record-alone .ensures in
     let below : h .i < countOf (now (a .file)) = omega arith in (
       omega arith,
       ⊎-elim
@@ -76,7 +76,7 @@ pass-over-spec =
     Inv-loop
     μ-loop
     loop-holds
-    fetch-in-requires
+    record-alone-requires
     enum-known-found
     is-live-requires
     try-cert-requires

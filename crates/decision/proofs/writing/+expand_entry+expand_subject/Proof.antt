@@ -27,7 +27,7 @@ use Rattle.decision.proofs.reading.symbol_at.Reads as symbol-at-reads
 use Rattle.decision.proofs.reading.symbols_in.Reads as symbols-in-reads
 use Rattle.decision.proofs.writing.find_cert.Reads as find-cert-reads
 use Rattle.decision.proofs.writing.find_place.Reads as find-place-reads
-use Rattle.wac.proofs.fetch_in.Reads as fetch-in-reads
+use Rattle.wac.proofs.record_alone.Reads as record-alone-reads
 
 abbrev μ-expand-entry : Measures 3 expand-entry-kinds.ps ℕ
 μ-expand-entry κs a = 2 * stepsAt (a .1 .1 .0) (now (a .1 .1 .1 .1 .0)) (a .1 .1 .1 .1 .1 .1 .1 .0) (a .1 .1 .1 .1 .1 .1 .1 .1 .0) (a .1 .1 .1 .1 .1 .1 .1 .1 .1 .0)
@@ -70,8 +70,8 @@ expand-entry-claims t = (
   weight-at-reads.Learnt,
   find-cert-reads.Asked,
   find-cert-reads.Learnt,
-  fetch-in-reads.Asked,
-  fetch-in-reads.Learnt,
+  record-alone-reads.Asked,
+  record-alone-reads.Learnt,
   expand-subject-below t,
   expand-subject.Post,
 )
@@ -102,8 +102,8 @@ expand-entry-find-cert-requires t c κs =
     let pre = c .before .before .before .before .before .pre .1 in
     (pre .0, pre .1, pre .2, λ z. omega (arith, c .before .weight-at .ensures, c .if1 .left))
 
-expand-entry-fetch-in-requires : (t : ℕ) → expand-entry-lts.Need-fetch-in-requires (expand-entry-claims t) (expand-entry-at t) expand-entry.Post
-expand-entry-fetch-in-requires t c κs = search needs
+expand-entry-record-alone-requires : (t : ℕ) → expand-entry-lts.Need-record-alone-requires (expand-entry-claims t) (expand-entry-at t) expand-entry.Post
+expand-entry-record-alone-requires t c κs = search needs
 
 expand-entry-enum-known-found : (t : ℕ) → expand-entry-lts.Need-enum-known-found (expand-entry-claims t) (expand-entry-at t) expand-entry.Post
 expand-entry-enum-known-found t c = search needs
@@ -115,7 +115,7 @@ expand-entry-returns-2 : (t : ℕ) → expand-entry-lts.Need-returns-2 (expand-e
 expand-entry-returns-2 t c =
     let accepted = c .before .before .before .before .before .before .before .before .before .pre .1 .0 .accepted in
     let below = bringing-below (c .before .before .before .find-cert .ensures) in
-    absurd (fetched-refused (c .before .before .fetch-in .ensures) accepted below (c .enum-told .given .1))
+    absurd (fetched-refused (c .before .before .record-alone .ensures) accepted below (c .enum-told .given .1))
 
 expand-entry-cast-chain : (t : ℕ) → expand-entry-lts.Need-cast-chain (expand-entry-claims t) (expand-entry-at t) expand-entry.Post
 expand-entry-cast-chain t c = omega arith
@@ -137,7 +137,7 @@ expand-entry-expand-subject-requires t c κs =
     let start = c .before .before .before .before .before .before .before .before .before .before .before in
     let pre = start .pre .1 in
     let bringing = c .before .before .before .before .before .find-cert .ensures in
-    let from = c .before .before .before .before .fetch-in .ensures in
+    let from = c .before .before .before .before .record-alone .ensures in
     let is = c .before .before .found .given .1 in
     let steps = bringing-steps bringing (fetched-same from (pre .0 .accepted) (bringing-below bringing) is) in (
       omega (arith, start .pre .0, steps),
@@ -157,7 +157,7 @@ expand-entry-returns-3 t c =
     let accepted = c .before .before .before .before .before .before .before .before .before .before .before .before .before .before .pre .1 .0 .accepted in
     let bringing = c .before .before .before .before .before .before .before .before .find-cert .ensures in
     let found = c .before .before .before .before .before in
-    let same = fetched-same (found .before .before .fetch-in .ensures) accepted (bringing-below bringing) (found .found .given .1) in
+    let same = fetched-same (found .before .before .record-alone .ensures) accepted (bringing-below bringing) (found .found .given .1) in
     entry-own bringing same (bringing-small bringing accepted) (c .before .before .expand-subject .ensures)
 
 abbrev expand-subject-Inv-loop : expand-subject-lts.InvT-loop
@@ -230,7 +230,7 @@ pub +expand-entry+expand-subject-spec : {M : Type 1} → statement M
     (expand-entry-weight-at-requires t)
     (expand-entry-returns t)
     (expand-entry-find-cert-requires t)
-    (expand-entry-fetch-in-requires t)
+    (expand-entry-record-alone-requires t)
     (expand-entry-enum-known-found t)
     (expand-entry-enum-told t)
     (expand-entry-returns-2 t)

@@ -17,11 +17,11 @@ known : (c : tie.After-found) →
     × Lawful (c .found .given .0 .0)
 known c =
     let pre = c .before .before .before .before .before .pre in
-    let from = c .before .before .fetch-in .ensures in
+    let from = c .before .before .record-alone .ensures in
     (fetched-same from (pre .0 .accepted) (pre .1) (c .found .given .1), fetched-lawful from (c .found .given .1))
 
-fetch-in-requires : tie.Need-fetch-in-requires
-fetch-in-requires c κs = search needs
+record-alone-requires : tie.Need-record-alone-requires
+record-alone-requires c κs = search needs
 
 enum-known-found : tie.Need-enum-known-found
 enum-known-found c = search needs
@@ -32,7 +32,7 @@ enum-told c = search needs
 returns : tie.Need-returns
 returns c =
     let pre = c .before .before .before .before .before .pre in
-    absurd (fetched-refused (c .before .before .fetch-in .ensures) (pre .0 .accepted) (pre .1) (c .enum-told .given .1))
+    absurd (fetched-refused (c .before .before .record-alone .ensures) (pre .0 .accepted) (pre .1) (c .enum-told .given .1))
 
 is-live-requires : tie.Need-is-live-requires
 is-live-requires c κs = search needs
@@ -92,7 +92,7 @@ pub brings-by-spec : {M : Type 1} → statement M
 brings-by-spec =
     tie.close
     (tie.spec
-    fetch-in-requires
+    record-alone-requires
     enum-known-found
     enum-told
     returns

@@ -1,4 +1,4 @@
--- `fetch_below` meets its contract: the number, then its record.
+-- `record_below` meets its contract: the number, then its record.
 use mathlib.Core.Bool.{not}
 use mathlib.Core.Path.{sym, ap, _∙_}
 use borrow.Author.Needs.{needs}
@@ -7,8 +7,8 @@ use Rattle.wac.specs.Answers.{gives}
 use Rattle.wac.specs.File.{certAt}
 use Rattle.wac.specs.View.{numberCases}
 use Rattle.wac.proofs.Cases.{first-none, first-holds, first-fails}
-use Rattle.wac.proofs.view.fetch_below.Statement.{statement}
-use Rattle.wac.proofs.view.fetch_below.Tie as tie
+use Rattle.wac.proofs.view.record_below.Statement.{statement}
+use Rattle.wac.proofs.view.record_below.Tie as tie
 
 returns : tie.Need-returns
 unfolding numberCases
@@ -42,7 +42,7 @@ returns-3 c =
     ∙ first-none _
     ∙ ap gives (sym (c .cert-at .ensures)))
 
-pub fetch-below-spec : {M : Type 1} → statement M
-fetch-below-spec =
+pub record-below-spec : {M : Type 1} → statement M
+record-below-spec =
     tie.close
     (tie.spec returns mul-at add-at record-ok-requires returns-2 cert-at-requires returns-3)

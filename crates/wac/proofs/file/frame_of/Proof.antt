@@ -1,4 +1,4 @@
--- `count_in` meets its contract: each return is the first case that holds, by the tests that led there.
+-- `frame_of` meets its contract: each return is the first case that holds, by the tests that led there.
 use mathlib.Core.Bool.{not}
 use mathlib.Core.Path.{sym, ap, _∙_}
 use native.Mathlib.Omega.{arith}
@@ -7,8 +7,8 @@ use borrow.Author.Tests.{lt-ltb, le-ltb, eq-eqb, ne-eqb}
 use lib.Dec.{eqb}
 use Rattle.wac.specs.File.{frameCases}
 use Rattle.wac.proofs.Cases.{first-none, first-holds, first-fails}
-use Rattle.wac.proofs.file.count_in.Statement.{statement}
-use Rattle.wac.proofs.file.count_in.Tie as tie
+use Rattle.wac.proofs.file.frame_of.Statement.{statement}
+use Rattle.wac.proofs.file.frame_of.Tie as tie
 
 returns : tie.Need-returns
 unfolding frameCases
@@ -85,8 +85,8 @@ returns-6 c =
     ∙ first-fails _ _ _ (ap not (eq-eqb _ _ (c .if5 .left)))
     ∙ first-none _)
 
-pub count-in-spec : {M : Type 1} → statement M
-count-in-spec =
+pub frame-of-spec : {M : Type 1} → statement M
+frame-of-spec =
     tie.close
     (tie.spec
     returns
