@@ -12,3 +12,4 @@ pub mod Replies
 pub mod Refusals
 pub mod AskLaws
 pub mod Unique
+pub mod Bounds
