@@ -1,3 +1,5 @@
 -- The laws of the codes, beside the proofs of their functions.
 pub mod BitsLaws
 pub mod Unique
+pub mod CodesQuestions
+pub mod Determined

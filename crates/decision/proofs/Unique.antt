@@ -127,7 +127,7 @@ module _ {s : List ℕ} {q : Request} where
       (reply-unique r r′ (both .0), both .1, both .2, both .3)
 
   -- the read screen: one answer
-  shows-alike : {a a′ : Answer Bool} → Shows s q a → Shows s q a′ → a ≡ a′
+  pub shows-alike : {a a′ : Answer Bool} → Shows s q a → Shows s q a′ → a ≡ a′
   shows-alike (Shows.refused n vs case e) (Shows.refused n′ vs′ case′ e′) = e ∙ ap (λ x. refuses (x .number) []) (same-refusal (sym case ∙ case′)) ∙ sym e′
   shows-alike (Shows.refused n vs case e) (Shows.yes case′ ch leads e′) = absurd (gives-not-refuses (sym case′ ∙ case))
   shows-alike (Shows.refused n vs case e) (Shows.no case′ none e′) = absurd (gives-not-refuses (sym case′ ∙ case))
@@ -139,8 +139,8 @@ module _ {s : List ℕ} {q : Request} where
   shows-alike (Shows.no case none e) (Shows.no case′ none′ e′) = e ∙ sym e′
 
   -- `may`: one showing
-  pub shows-unique : {r r′ : Shown} → Shows s q (shownAs r) → Shows s q (shownAs r′) → r ≡ r′
-  shows-unique {r} {r′} h g = shown-unique r r′ (shows-alike h g)
+  pub shows-unique : (r r′ : Shown) → Shows s q (shownAs r) → Shows s q (shownAs r′) → r ≡ r′
+  shows-unique r r′ h g = shown-unique r r′ (shows-alike h g)
 
   -- `settle`: one number of passes, one table
   pub settles-unique : {r r′ : Settling} {t t₁ t₂ : List ℕ} → Settles s q r t t₁ → Settles s q r′ t t₂ → (r ≡ r′) × (t₁ ≡ t₂)
