@@ -73,7 +73,7 @@ module _ {s : List ℕ} {q : Request} where
       (h .beyond ∙ sym (g .beyond))
 
   -- after answer 0 the first n places are the chain, and the others are as they were
-  chain-written : {W n : ℕ} {ch c′ : List ℕ} (c : List ℕ) → chainPlaces ≤ length c → n ≤ chainPlaces → ShortestBest s q W n ch → c′ ≡ sets c 0 ch →
+  pub chain-written : {W n : ℕ} {ch c′ : List ℕ} (c : List ℕ) → chainPlaces ≤ length c → n ≤ chainPlaces → ShortestBest s q W n ch → c′ ≡ sets c 0 ch →
       ShortestBest s q W n (take n c′) × (drop n c′ ≡ drop n c)
   chain-written {W} {n} {ch} {c′} c wide low best e =
       let long = best .long in
