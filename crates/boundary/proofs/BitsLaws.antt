@@ -1,7 +1,7 @@
 -- Bits as a number: n of them stay below 2^n.
 use mathlib.Core.Bool.{Bool, true, false, cond}
 use mathlib.Core.List.{List}
-use mathlib.Core.Path.{_≡_, refl, ap, _∙_}
+use mathlib.Core.Path.{_≡_, refl, sym, ap, _∙_, subst}
 use Prim.Native.Nat.{ℕ, zero, suc, _+_, _*_, _-_, _≤_, _<_}
 use native.Mathlib.Omega.{arith}
 use lib.ListN.{getD}
@@ -17,7 +17,7 @@ unfolding power
 one-le-power zero = let here : power zero ≡ 1 = refl in omega (arith, here)
 one-le-power (suc n) = let here : power (suc n) ≡ 2 * power n = refl in omega (arith, here, one-le-power n)
 
-bit-le-one : (b : Bool) → cond b 1 0 ≤ 1
+pub bit-le-one : (b : Bool) → cond b 1 0 ≤ 1
 bit-le-one true = omega arith
 bit-le-one false = omega arith
 
@@ -50,3 +50,25 @@ bits-below places k (suc n) (suc m) le =
 pub bits-half : (places : List Bool) (k n : ℕ) → n ≤ 15 → bits places k n < 32768
 unfolding power
 bits-half places k n le = bits-below places k n 15 le
+
+-- sixteen places at most
+pub bits-whole : (places : List Bool) (k n : ℕ) → n ≤ 16 → bits places k n < 65536
+unfolding power
+bits-whole places k n le = bits-below places k n 16 le
+
+-- one bit and twice a number are told apart
+pub bit-apart : (b b′ : Bool) {x x′ : ℕ} → cond b 1 0 + 2 * x ≡ cond b′ 1 0 + 2 * x′ → (b ≡ b′) × (x ≡ x′)
+bit-apart true true e = (refl, omega arith)
+bit-apart true false e = absurd (omega arith)
+bit-apart false true e = absurd (omega arith)
+bit-apart false false e = (refl, omega arith)
+
+-- places with one sum are the same
+pub bits-apart : (l l′ : List Bool) (k n : ℕ) → bits l k n ≡ bits l′ k n → (i : ℕ) → i < n → getD l (k + i) false ≡ getD l′ (k + i) false
+bits-apart l l′ k zero e i low = absurd (omega arith)
+bits-apart l l′ k (suc n) e zero low =
+    let first = bit-apart (getD l k false) (getD l′ k false) (sym (bits-suc l k n) ∙ e ∙ bits-suc l′ k n) .0 in
+    subst (λ j. getD l j false ≡ getD l′ j false) {x = k} {y = k + 0} (omega arith) first
+bits-apart l l′ k (suc n) e (suc i) low =
+    let rest = bit-apart (getD l k false) (getD l′ k false) (sym (bits-suc l k n) ∙ e ∙ bits-suc l′ k n) .1 in
+    subst (λ j. getD l j false ≡ getD l′ j false) {x = suc k + i} {y = k + suc i} (omega arith) (bits-apart l l′ (suc k) n rest i (omega arith))

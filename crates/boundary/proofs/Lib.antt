@@ -2,3 +2,5 @@
 pub mod BitsLaws
 pub mod Codes
 pub mod Unique
+pub mod CodesQuestions
+pub mod Determined

@@ -1,7 +1,6 @@
 // The decision: each function passes what it is given to one public function of `decision` and
 // gives the answer as one number.
 use crate::code_of;
-use decision::Refused;
 use decision::Request;
 use decision::Settling;
 use decision::Shown;
@@ -11,11 +10,10 @@ use decision::Verdict;
 use wac::Table;
 ghost use mathlib.Core.Path.{_≡_};
 ghost use Rattle.wac.specs.Limits.{keys};
-ghost use Rattle.decision.specs.Question.{requestOf};
+ghost use Rattle.decision.specs.Question.{requestOf, shownAs, stockedAs, settlingAs};
 ghost use Rattle.boundary.specs.Questions.{
   wideCode,
   verdictCode,
-  refusedCode,
   shownCode,
   bits,
   stockedCode,
@@ -61,21 +59,14 @@ fn verdict_code(verdict: Verdict) -> u64
     }
 }
 
-// A refusal as one number.
-fn refused_code(why: Refused) -> u32
-    ensures { λ r. ⌜ r ≡ refusedCode why ⌝ }
-{
-    code_of(decision::refusal_number(why), decision::refusal_record(why))
-}
-
 // What the read screen shows, as one number.
 fn shown_code(shown: Shown) -> u32
-    ensures { λ r. ⌜ r ≡ shownCode shown ⌝ }
+    ensures { λ r. ⌜ r ≡ shownCode (shownAs shown) ⌝ }
 {
     match shown {
         Shown::Yes => code_of(0, 1),
         Shown::No => code_of(0, 0),
-        Shown::Refused(why) => refused_code(why),
+        Shown::Refused(number) => code_of(number, 0),
     }
 }
 
@@ -97,7 +88,7 @@ fn bits_of(list: &[bool; Table::KEYS]) -> usize
 
 // A stock list as one number.
 fn stocked_code(list: StockList) -> u32
-    ensures { λ r. ⌜ r ≡ stockedCode (list .answer) (list .keys) ⌝ }
+    ensures { λ r. ⌜ r ≡ stockedCode (stockedAs (list .answer) (list .keys)) ⌝ }
 {
     let answer = list.answer;
     match answer {
@@ -105,7 +96,7 @@ fn stocked_code(list: StockList) -> u32
             let keys = list.keys;
             code_of(0, bits_of(&keys))
         }
-        Stocked::Refused(why) => refused_code(why),
+        Stocked::Refused(number) => code_of(number, 0),
     }
 }
 
@@ -118,7 +109,7 @@ fn long_code(number: u8, value: u64) -> u64
 
 // What settling answers, as one number.
 fn settling_code(settling: Settling) -> u64
-    ensures { λ r. ⌜ r ≡ settlingCode settling ⌝ }
+    ensures { λ r. ⌜ r ≡ settlingCode (settlingAs settling) ⌝ }
 {
     match settling {
         Settling::Passes(passes) => long_code(0, passes),
@@ -163,7 +154,7 @@ pub extern "C" fn decision_short(
     verdict_code(decision::ask_short(file, owner, asker, at, minutes, steps, chain))
 }
 
-// `decision::may`: 1 for yes, 0 for no, or the refusal.
+// `decision::may`: 1 for yes, 0 for no, or number × 65,536.
 #[no_mangle]
 pub extern "C" fn decision_may(file: &[u8], owner: u8, asker: u8, at: u32) -> u32
     ensures { λ r. ⌜ MayCoded (now (file .entry)) (requestOf owner asker 2 at) r ⌝ }
@@ -171,7 +162,7 @@ pub extern "C" fn decision_may(file: &[u8], owner: u8, asker: u8, at: u32) -> u3
     shown_code(decision::may(file, owner, asker, at))
 }
 
-// `decision::stock`: the sum of 2^k over the keys k that get yes, or the refusal.
+// `decision::stock`: the sum of 2^k over the keys k that get yes, or number × 65,536.
 #[no_mangle]
 pub extern "C" fn decision_stock(file: &[u8], owner: u8, at: u32) -> u32
     ensures { λ r. ⌜ StockCoded (now (file .entry)) owner at r ⌝ }

@@ -8,5 +8,8 @@ pub mod PassingLaws
 pub mod SettlingLaws
 pub mod WritingLaws
 pub mod QuestionLaws
+pub mod Replies
+pub mod Refusals
 pub mod AskLaws
 pub mod Unique
+pub mod Bounds

@@ -162,7 +162,7 @@ module _ {s : List ℕ} {q : Request} (bytes : AreBytes s) {count W : ℕ} (g : 
     pub counted-short : {P n : ℕ} {ch ch′ : List ℕ} {r : ℕ} → n ≡ stepsAt W l₂ (q .owner) delegate keys → n ≤ chainPlaces →
         Wrote (Entered s q W (q .owner) delegate keys) 0 (stepsAt W l₂ (q .owner) delegate keys) ch ch′ r → Counted s q W P (verdicts.Granted W n P) l l₂ ch ch′
     counted-short {n = n} e h w =
-        counted n (w .list) (rw e fewest-owner) h (entered-weighs (w .list) (w .holds)) (w .long ∙ sym e) (w .written) steps-held refl
+        counted n (w .list) h (record { best = g .best; weighs = entered-weighs (w .list) (w .holds); long = w .long ∙ sym e; fewest = rw e fewest-owner }) (w .written) steps-held refl
 
 -- the minutes of a question in order
 module _ {s : List ℕ} {q : Request} (bytes : AreBytes s) {count : ℕ} (ready : Ready s q count) where

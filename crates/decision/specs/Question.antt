@@ -1,6 +1,6 @@
 -- The question: its refusals, its answers and what the lent places then hold, in terms of chains: document 01, "Entries and passes" and "What comes back".
 use mathlib.Core.Path.{_≡_}
-use mathlib.Core.Bool.{true, false, cond}
+use mathlib.Core.Bool.{Bool, true, false}
 use mathlib.Core.List.{List, [], _∷_, _++_}
 use Prim.Native.Nat.{ℕ, _<_, _≤_}
 use lib.Dec.{leb, ltb, eqb}
@@ -27,6 +27,7 @@ use Rattle.decision.specs.declared.question.Admitted.the-variants as adm
 use Rattle.decision.specs.declared.question.Shown.{Shown}
 use Rattle.decision.specs.declared.question.Shown.the-variants as shows
 use Rattle.decision.specs.declared.question.StockList.{StockList}
+use Rattle.decision.specs.declared.question.Stocked.{Stocked}
 use Rattle.decision.specs.declared.question.Stocked.the-variants as stocks
 use Rattle.decision.specs.declared.question.Settling.{Settling}
 use Rattle.decision.specs.declared.question.Settling.the-variants as settlings
@@ -93,12 +94,16 @@ pub record Reply : Type 0 where
   pub number : ℕ
   pub values : List ℕ
 
+-- a number with its values
+abbrev pub reply : ℕ → List ℕ → Reply
+reply number values = record { number = number; values = values }
+
 -- the number and the values of each verdict
 abbrev pub replyOf : Verdict → Reply
-replyOf (verdicts.Granted minute steps passes) = record { number = 0; values = minute ∷ steps ∷ passes ∷ [] }
-replyOf (verdicts.NoChain passes) = record { number = 1; values = passes ∷ [] }
-replyOf (verdicts.GrantedLong minute passes) = record { number = 2; values = minute ∷ passes ∷ [] }
-replyOf (verdicts.Refused why) = record { number = refusalNumber why; values = refusalValues why }
+replyOf (verdicts.Granted minute steps passes) = reply 0 (minute ∷ steps ∷ passes ∷ [])
+replyOf (verdicts.NoChain passes) = reply 1 (passes ∷ [])
+replyOf (verdicts.GrantedLong minute passes) = reply 2 (minute ∷ passes ∷ [])
+replyOf (verdicts.Refused why) = reply (refusalNumber why) (refusalValues why)
 
 -- the minutes' places after an answer 0, 1 or 2: those of the last of N passes; places beyond stay
 pub record MinutesHeld (s : List ℕ) (q : Request) (N : ℕ) (minutes minutes′ : List ℕ) : Type 0 where
@@ -112,20 +117,27 @@ pub record StepsHeld (s : List ℕ) (q : Request) (W : ℕ) (steps steps′ : Li
   pub long : length steps′ ≡ length steps
   pub beyond : drop entries steps′ ≡ drop entries steps
 
--- granted in W minutes by a question of N passes, and what the places for steps and for the chain then hold
-pub data Counted (s : List ℕ) (q : Request) (W N : ℕ) (r : Verdict) (steps steps′ chain chain′ : List ℕ) : Type 0 where
-  counted : (n : ℕ) (ch : List ℕ) → Fewest (Weighs (asked q) (rulesOf s q) (q .owner) W) n → n ≤ chainPlaces → Weighs (asked q) (rulesOf s q) (q .owner) W ch → length ch ≡ n →
-      chain′ ≡ sets chain 0 ch → StepsHeld s q W steps steps′ → r ≡ verdicts.Granted W n N → Counted s q W N r steps steps′ chain chain′
-  uncountable : Fewest (Weighs (asked q) (rulesOf s q) (q .owner) W) uncounted → chain′ ≡ chain → StepsHeld s q W steps steps′ → r ≡ verdicts.GrantedLong W N →
-      Counted s q W N r steps steps′ chain chain′
+-- ch is a shortest best chain: W is the latest minute of a chain, ch has it and n certificates, and no chain that has it has fewer
+pub record ShortestBest (s : List ℕ) (q : Request) (W n : ℕ) (ch : List ℕ) : Type 0 where
+  pub best : Best (asked q) (rulesOf s q) (q .owner) W
+  pub weighs : Weighs (asked q) (rulesOf s q) (q .owner) W ch
+  pub long : length ch ≡ n
+  pub fewest : Fewest (Weighs (asked q) (rulesOf s q) (q .owner) W) n
 
--- a question in order: granted, W being the latest minute over all chains; or there is no chain
+-- granted until W by a question of N passes: 0 and a shortest best chain is written, other places stay; or 2 and every place stays
+pub data Counted (s : List ℕ) (q : Request) (W N : ℕ) (r : Verdict) (steps steps′ chain chain′ : List ℕ) : Type 0 where
+  counted : (n : ℕ) (ch : List ℕ) → n ≤ chainPlaces → ShortestBest s q W n ch → chain′ ≡ sets chain 0 ch →
+      StepsHeld s q W steps steps′ → replyOf r ≡ reply 0 (W ∷ n ∷ N ∷ []) → Counted s q W N r steps steps′ chain chain′
+  uncountable : Fewest (Weighs (asked q) (rulesOf s q) (q .owner) W) uncounted → chain′ ≡ chain →
+      StepsHeld s q W steps steps′ → replyOf r ≡ reply 2 (W ∷ N ∷ []) → Counted s q W N r steps steps′ chain chain′
+
+-- a question in order: granted, W being the latest minute over all chains; or there is no chain, and 1
 pub data Answered (s : List ℕ) (q : Request) (r : Verdict) (minutes minutes′ steps steps′ chain chain′ : List ℕ) : Type 0 where
-  granted : (W N : ℕ) → (W ≡ 0 → ⊥) → Best (asked q) (rulesOf s q) (q .owner) W → MinutesHeld s q N minutes minutes′ → Counted s q W N r steps steps′ chain chain′ →
-      Answered s q r minutes minutes′ steps steps′ chain chain′
+  granted : (W N : ℕ) → (W ≡ 0 → ⊥) → Best (asked q) (rulesOf s q) (q .owner) W → MinutesHeld s q N minutes minutes′ →
+      Counted s q W N r steps steps′ chain chain′ → Answered s q r minutes minutes′ steps steps′ chain chain′
   denied : (N : ℕ) → ((ch : List ℕ) → Chain (rulesOf s q) (q .owner) (q .asker) ch → ⊥) → MinutesHeld s q N minutes minutes′ →
-      take entries steps′ ≡ replicate entries uncounted → drop entries steps′ ≡ drop entries steps → chain′ ≡ chain → r ≡ verdicts.NoChain N →
-      Answered s q r minutes minutes′ steps steps′ chain chain′
+      take entries steps′ ≡ replicate entries uncounted → drop entries steps′ ≡ drop entries steps → chain′ ≡ chain →
+      replyOf r ≡ reply 1 (N ∷ []) → Answered s q r minutes minutes′ steps steps′ chain chain′
 
 -- W is the latest minute of a question in order
 pub record Granting (s : List ℕ) (q : Request) (count W : ℕ) : Type 0 where
@@ -143,31 +155,55 @@ askCases s q minutes steps chain =
 
 -- the question: refused by the first case that holds, and then every lent place is as it was; or answered
 pub data Judged (s : List ℕ) (q : Request) (r : Verdict) (minutes minutes′ steps steps′ chain chain′ : List ℕ) : Type 0 where
-  refused : (why : Refused) → firstOf (askCases s q (length minutes) (length steps) (length chain)) (countOf s) ≡ refusedAs why → r ≡ verdicts.Refused why →
-      minutes′ ≡ minutes → steps′ ≡ steps → chain′ ≡ chain → Judged s q r minutes minutes′ steps steps′ chain chain′
-  answered : firstOf (askCases s q (length minutes) (length steps) (length chain)) (countOf s) ≡ gives (countOf s) → Answered s q r minutes minutes′ steps steps′ chain chain′ →
+  refused : (n : ℕ) (vs : List ℕ) → firstOf (askCases s q (length minutes) (length steps) (length chain)) (countOf s) ≡ refuses n vs →
+      replyOf r ≡ reply n vs → minutes′ ≡ minutes → steps′ ≡ steps → chain′ ≡ chain →
       Judged s q r minutes minutes′ steps steps′ chain chain′
+  answered : firstOf (askCases s q (length minutes) (length steps) (length chain)) (countOf s) ≡ gives (countOf s) →
+      Answered s q r minutes minutes′ steps steps′ chain chain′ → Judged s q r minutes minutes′ steps steps′ chain chain′
 
 -- the record's number that a refusal returns, 0 where it returns none
 abbrev pub refusalRecord : Refused → ℕ
 refusalRecord why = getD (refusalValues why) 0 0
 
--- the read screen: refused as the question is; yes if there is a chain, no if there is none
-pub data Shows (s : List ℕ) (q : Request) (r : Shown) : Type 0 where
-  refused : (why : Refused) → firstOf (fileCases s ++ requestCases q) (countOf s) ≡ refusedAs why → r ≡ shows.Refused why → Shows s q r
-  yes : firstOf (fileCases s ++ requestCases q) (countOf s) ≡ gives (countOf s) → (ch : List ℕ) → Chain (rulesOf s q) (q .owner) (q .asker) ch → r ≡ shows.Yes → Shows s q r
-  no : firstOf (fileCases s ++ requestCases q) (countOf s) ≡ gives (countOf s) → ((ch : List ℕ) → Chain (rulesOf s q) (q .owner) (q .asker) ch → ⊥) → r ≡ shows.No → Shows s q r
+-- what the read screen comes back as: a yes or no, or the refusal's number alone
+abbrev pub shownAs : Shown → Answer Bool
+shownAs shows.Yes = gives true
+shownAs shows.No = gives false
+shownAs (shows.Refused number) = refuses number []
 
--- the stock list: refused as the question is, and then all no; or for each key what the read screen shows
+-- the read screen: refused as the question is, and then only the number; yes if there is a chain, no if there is none
+pub data Shows (s : List ℕ) (q : Request) (a : Answer Bool) : Type 0 where
+  refused : (n : ℕ) (vs : List ℕ) → firstOf (fileCases s ++ requestCases q) (countOf s) ≡ refuses n vs → a ≡ refuses n [] → Shows s q a
+  yes : firstOf (fileCases s ++ requestCases q) (countOf s) ≡ gives (countOf s) →
+      (ch : List ℕ) → Chain (rulesOf s q) (q .owner) (q .asker) ch → a ≡ gives true → Shows s q a
+  no : firstOf (fileCases s ++ requestCases q) (countOf s) ≡ gives (countOf s) →
+      ((ch : List ℕ) → Chain (rulesOf s q) (q .owner) (q .asker) ch → ⊥) → a ≡ gives false → Shows s q a
+
+-- what the stock list comes back as: a yes or no for each key, or the refusal's number alone
+abbrev pub stockedAs : Stocked → List Bool → Answer (List Bool)
+stockedAs stocks.Given shown = gives shown
+stockedAs (stocks.Refused number) shown = refuses number []
+
+-- the stock list: refused as the question is, and then only the number, and all no; or for each key what the read screen shows
 pub data Stocks (s : List ℕ) (owner at : ℕ) (r : StockList) : Type 0 where
-  refused : (why : Refused) → firstOf (fileCases s ++ requestCases (requestOf owner 0 2 at)) (countOf s) ≡ refusedAs why → r .answer ≡ stocks.Refused why → r .keys ≡ replicate keys false → Stocks s owner at r
-  given : ((k : ℕ) → k < keys → Shows s (requestOf owner k 2 at) (cond (getD (r .keys) k false) shows.Yes shows.No)) → r .answer ≡ stocks.Given → length (r .keys) ≡ keys → Stocks s owner at r
+  refused : (n : ℕ) (vs : List ℕ) → firstOf (fileCases s ++ requestCases (requestOf owner 0 2 at)) (countOf s) ≡ refuses n vs →
+      stockedAs (r .answer) (r .keys) ≡ refuses n [] → r .keys ≡ replicate keys false → Stocks s owner at r
+  given : (shown : List Bool) → ((k : ℕ) → k < keys → Shows s (requestOf owner k 2 at) (gives (getD shown k false))) →
+      length shown ≡ keys → stockedAs (r .answer) (r .keys) ≡ gives shown → Stocks s owner at r
 
 -- the refusals of settling a given table: the file's, the request's, the table's
 unfoldable pub settleCases : List ℕ → Request → ℕ → List Case
 settleCases s q table = (fileCases s ++ requestCases q) ++ (23 if ltb table entries) ∷ []
 
--- settling a given table: refused by the first case that holds, and then nothing changes; or the table after the passes of the definition, up to and including the first that changes nothing
+-- what settling comes back as: the number of passes, or the refusal
+abbrev pub settlingAs : Settling → Answer ℕ
+settlingAs (settlings.Passes passes) = gives passes
+settlingAs (settlings.Refused why) = refusedAs why
+
+-- settling a given table: refused by the first case that holds, and then nothing changes; or the table after the passes of the
+-- definition, up to and including the first that changes nothing
 pub data Settles (s : List ℕ) (q : Request) (r : Settling) (table table′ : List ℕ) : Type 0 where
-  refused : (why : Refused) → firstOf (settleCases s q (length table)) (countOf s) ≡ refusedAs why → r ≡ settlings.Refused why → table′ ≡ table → Settles s q r table table′
-  settled : firstOf (settleCases s q (length table)) (countOf s) ≡ gives (countOf s) → (N : ℕ) → SettledFrom Minutes s q table N table′ → r ≡ settlings.Passes N → Settles s q r table table′
+  refused : (n : ℕ) (vs : List ℕ) → firstOf (settleCases s q (length table)) (countOf s) ≡ refuses n vs →
+      settlingAs r ≡ refuses n vs → table′ ≡ table → Settles s q r table table′
+  settled : firstOf (settleCases s q (length table)) (countOf s) ≡ gives (countOf s) → (N : ℕ) → SettledFrom Minutes s q table N table′ →
+      settlingAs r ≡ gives N → Settles s q r table table′

@@ -22,6 +22,7 @@ ghost use Rattle.decision.specs.Question.{
   Counted,
   Answered,
   Judged,
+  shownAs,
   Shows,
   Stocks,
   Settles,
@@ -218,16 +219,16 @@ pub fn ask_short(
     ask(file, owner, asker, 2, at, minutes, steps, chain)
 }
 
-// What the read screen shows.
+// What the read screen shows; a refusal's number alone.
 pub enum Shown {
     Yes,
     No,
-    Refused(Refused),
+    Refused(u8),
 }
 
 // The read screen: a yes or no for one asker, by the short form. Yes is answer 0 or 2.
 pub fn may(file: &[u8], owner: u8, asker: u8, at: u32) -> Shown
-    ensures { λ r. ⌜ Shows (now (file .entry)) (requestOf owner asker 2 at) r ⌝ }
+    ensures { λ r. ⌜ Shows (now (file .entry)) (requestOf owner asker 2 at) (shownAs r) ⌝ }
 {
     let mut minutes = [0u32; Table::ENTRIES];
     let mut steps = [0u32; Table::ENTRIES];
@@ -237,14 +238,14 @@ pub fn may(file: &[u8], owner: u8, asker: u8, at: u32) -> Shown
         Verdict::Granted(_, _, _) => Shown::Yes,
         Verdict::NoChain(_) => Shown::No,
         Verdict::GrantedLong(_, _) => Shown::Yes,
-        Verdict::Refused(why) => Shown::Refused(why),
+        Verdict::Refused(why) => Shown::Refused(refusal_number(why)),
     }
 }
 
-// Whether the stock list is given.
+// Whether the stock list is given; a refusal's number alone.
 pub enum Stocked {
     Given,
-    Refused(Refused),
+    Refused(u8),
 }
 
 // The stock list: a yes or no for each of the 16 keys, all no where it is refused.
@@ -265,9 +266,9 @@ pub fn stock(file: &[u8], owner: u8, at: u32) -> StockList
                 keys[key] = true;
             }
             Shown::No => {}
-            Shown::Refused(why) => {
+            Shown::Refused(number) => {
                 return StockList {
-                    answer: Stocked::Refused(why),
+                    answer: Stocked::Refused(number),
                     keys: [false; Table::KEYS],
                 };
             }

@@ -33,7 +33,7 @@ use Rattle.decision.specs.declared.lens.Lens.the-variants.{Minutes}
 use Rattle.decision.proofs.RulesLaws.{rules-lawful}
 use Rattle.decision.proofs.QuestionLaws.{rules-weighty}
 use Rattle.judged.specs.File.{dated, certificates, file, emptyFile}
-use Rattle.judged.specs.Right.{Line, GRANTED, NO-CHAIN, Case, requestIn, Says, Right, AllRight}
+use Rattle.judged.specs.Right.{Line, GRANTED, NO-CHAIN, Case, requestIn, Says, Right, All}
 use Rattle.judged.specs.Cases.{p1, p2, p3, p4, p5, p6, p7, p8, p9, p10, cases}
 use Rattle.judged.proofs.Lists.{only, worth, one, told, scaled, spread, reach}
 use Rattle.judged.proofs.Rounds.{put, add, ends, raised, opened, round, alike, calm, counts, round-told, calm-settled, counts-passes}
@@ -163,11 +163,13 @@ module _ (s : List ℕ) (q : Request) (ok : Lawful (asked q) (rulesOf s q)) (lat
       let best = ⊎-elim (λ h. absurd (not-zero m (d .1) (h .0))) (λ h. h .1) (minute .1) in
       record {
         count = minute .0;
-        best = best;
-        fewest = steps-of m n best (c .1);
         short = leb-true n chainPlaces (b .1);
-        weighs = (arrived-of (q .asker) (run R ch (at (q .owner) delegate)) (g .0), eqb-true _ _ (g .1));
-        long = eqb-true (length ch) n (f .1);
+        shortest = record {
+          best = best;
+          weighs = (arrived-of (q .asker) (run R ch (at (q .owner) delegate)) (g .0), eqb-true _ _ (g .1));
+          long = eqb-true (length ch) n (f .1);
+          fewest = steps-of m n best (c .1);
+        };
       }
   line-of (NO-CHAIN N) e =
       let minute = minute-of N 0 e in
@@ -201,7 +203,7 @@ a then b = (a, b)
 
 infixr 20 _then_
 -- The cases P1 to P10 are right.
-pub judged : AllRight cases
+pub judged : All Right cases
 unfolding bytes? clear? marked? arrived? minute? steps? chain? line? case?
     dated certificates file emptyFile cases certsOf listed certAt certFrom firstOf
     isWac lowest lowestBad frameCases fileCases names authorizations rangeAt spare byteOk allBelow recordOk requestCases

@@ -9,21 +9,20 @@ use Rattle.rewriting.proofs.Answers.{answer-unique}
 use Rattle.rewriting.proofs.Settling.{count-unique}
 use Rattle.rewriting.proofs.Steps.{fewest-unique}
 use Rattle.decision.specs.Usable.{rulesOf}
-use Rattle.decision.specs.Question.{Reply, asked}
+use Rattle.decision.specs.Question.{Reply, reply, asked}
 use Rattle.decision.specs.declared.request.Request.{Request}
 use Rattle.judged.specs.Right.{Line, GRANTED, NO-CHAIN, replyIn, Says}
 
 module _ (s : List ℕ) (q : Request) where
-  granted : ℕ → ℕ → ℕ → Reply
-  granted minute steps passes = record { number = 0; values = minute ∷ steps ∷ passes ∷ [] }
+  abbrev granted : ℕ → ℕ → ℕ → Reply
+  granted minute steps passes = reply 0 (minute ∷ steps ∷ passes ∷ [])
 
   pub line-unique : (l m : Line) → Says s q l → Says s q m → replyIn l ≡ replyIn m
-  unfolding granted
   line-unique (GRANTED w n N c) (GRANTED w′ n′ N′ c′) a b =
-      let minute = answer-unique (inl (a .best)) (inl (b .best)) in
-      let steps = fewest-unique (subst (λ x. Fewest (Weighs (asked q) (rulesOf s q) (q .owner) x) n) minute (a .fewest)) (b .fewest) in
+      let minute = answer-unique (inl (a .shortest .best)) (inl (b .shortest .best)) in
+      let steps = fewest-unique (subst (λ x. Fewest (Weighs (asked q) (rulesOf s q) (q .owner) x) n) minute (a .shortest .fewest)) (b .shortest .fewest) in
       let passes = count-unique (a .count) (b .count) in
       ap (λ x. granted x n N) minute ∙ ap (λ x. granted w′ x N) steps ∙ ap (λ x. granted w′ n′ x) passes
-  line-unique (GRANTED w n N c) (NO-CHAIN N′) a b = absurd (b .none (a .best .chain) (a .best .leads))
-  line-unique (NO-CHAIN N) (GRANTED w n N′ c) a b = absurd (a .none (b .best .chain) (b .best .leads))
-  line-unique (NO-CHAIN N) (NO-CHAIN N′) a b = ap (λ x. record { number = 1; values = x ∷ [] }) (count-unique (a .count) (b .count))
+  line-unique (GRANTED w n N c) (NO-CHAIN N′) a b = absurd (b .none (a .shortest .best .chain) (a .shortest .best .leads))
+  line-unique (NO-CHAIN N) (GRANTED w n N′ c) a b = absurd (a .none (b .shortest .best .chain) (b .shortest .best .leads))
+  line-unique (NO-CHAIN N) (NO-CHAIN N′) a b = ap (λ x. reply 1 (x ∷ [])) (count-unique (a .count) (b .count))

@@ -52,7 +52,7 @@ no-file q n = first-refused (fileCases [] ++ requestCases q) _ (countOf []) (cou
 
 pub blank-works : {x : Site} → Works blankSite x → x ≡ blankSite
 unfolding blankSite
-blank-works (Works.worked N ms (Settles.refused why case e same) at) = absurd (let z : _≡_ {A = ℕ} 0 1 = cc in omega arith)
+blank-works (Works.worked N ms (Settles.refused n vs case e same) at) = absurd (gives-not-refuses e)
 blank-works (Works.worked N ms (Settles.settled case M from e) at) = absurd (gives-not-refuses (sym case ∙ no-file _ _))
 blank-works (Works.refused why settles at) = at
 

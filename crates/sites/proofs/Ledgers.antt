@@ -23,11 +23,9 @@ use Rattle.decision.specs.Lens.{questionBy}
 use Rattle.decision.specs.Usable.{rulesOf}
 use Rattle.decision.specs.Table.{isEntry, number, keyOf, symbolOf, arrivalOf, tableOf}
 use Rattle.decision.specs.Engine.{Within, held, SettledFrom}
-use Rattle.decision.specs.Question.{requestCases, refusedAs, settleCases, Settles, asked}
+use Rattle.decision.specs.Question.{requestCases, settleCases, Settles, asked}
 use Rattle.decision.specs.declared.request.Request.{Request}
 use Rattle.decision.specs.declared.lens.Lens.the-variants.{Minutes}
-use Rattle.decision.specs.declared.question.Refused.{Refused}
-use Rattle.decision.specs.declared.question.Settling.the-variants as settlings
 use Rattle.decision.proofs.TableLaws.{entry-back, number-back, set-here, set-there, list-held, held-row, within-row}
 use Rattle.decision.proofs.PassingLaws.{within-set}
 use Rattle.notes.specs.Notes as rules
@@ -133,17 +131,14 @@ module _ (s : List ℕ) (q : Request) (ok : Lawful (questionBy Minutes (q .asker
       within : Within Minutes ms
       within = within-row Minutes (q .asker) _ after ms (from .row) (x .minutes) (st .minutes) (from .long) (from .beyond)
 
-  no-refusal : {why : Refused} {N : ℕ} → settlings.Refused why ≡ settlings.Passes N → ⊥
-  no-refusal e = let z : _≡_ {A = ℕ} 0 1 = cc in omega arith
-
   -- working a site is the rules' work
   pub site-works : {session : ℕ} {x x′ : Site} → Standing s q session x → Works x x′ → rules.Works (asked q) (rulesOf s q) (ledger x) (ledger x′) × Standing s q session x′
-  site-works st (Works.worked N ms (Settles.refused why case e same) at) = absurd (no-refusal (sym e))
+  site-works st (Works.worked N ms (Settles.refused n vs case e same) at) = absurd (gives-not-refuses e)
   site-works {x = x} st (Works.worked N ms (Settles.settled case M from e) at) =
       settled-works ms M st (subst₂ (λ f r. SettledFrom Minutes f r (x .minutes) M ms) (st .file) (st .request) from) at
-  site-works st (Works.refused why (Settles.settled case M from e) at) = absurd (no-refusal e)
-  site-works {x = x} st (Works.refused why (Settles.refused why′ case e same) at) =
-      absurd (gives-not-refuses (sym (settles-given (x .minutes) (st .minutes .long)) ∙ subst₂ (λ f r. firstOf (settleCases f r (length (x .minutes))) (countOf f) ≡ refusedAs why′) (st .file) (st .request) case))
+  site-works st (Works.refused why (Settles.settled case M from e) at) = absurd (gives-not-refuses (sym e))
+  site-works {x = x} st (Works.refused why (Settles.refused n vs case e same) at) =
+      absurd (gives-not-refuses (sym (settles-given (x .minutes) (st .minutes .long)) ∙ subst₂ (λ f r. firstOf (settleCases f r (length (x .minutes))) (countOf f) ≡ refuses n vs) (st .file) (st .request) case))
 
 -- ---- taking a note
 

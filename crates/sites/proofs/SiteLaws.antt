@@ -16,14 +16,14 @@ use lib.Seq.{length-take-le, take-all, take-suc, drop-cons, set-at, append-snoc}
 use Rattle.wac.specs.Limits.{keys, delegate, access, endPlace, entries, withoutEnd, largestFile}
 use Rattle.wac.specs.Answers.{gives, refuses, _if_, firstOf}
 use Rattle.wac.specs.Ranges.{allBelow}
-use Rattle.wac.proofs.Cases.{first-none, first-holds, first-fails, first-passed}
+use Rattle.wac.proofs.Cases.{first-none, first-holds, first-fails, first-passed, gives-not-refuses}
 use Rattle.wac.proofs.Tests.{and-true, false-and, and-both, and-false, allBelow-true, allBelow-false}
 use Rattle.wac.proofs.FileLaws.{file-kept}
 use Rattle.rewriting.specs.Weighing.{minutes}
 use Rattle.rewriting.specs.Entries.{Mark}
 use Rattle.decision.specs.Table.{isEntry, number, entryNumber, tableOf}
 use Rattle.decision.specs.Engine.{Accepted}
-use Rattle.decision.specs.Question.{Settles, Settles.refused, Settles.settled}
+use Rattle.decision.specs.Question.{settlingAs, Settles, Settles.refused, Settles.settled}
 use Rattle.decision.specs.declared.request.Request.{Request}
 use Rattle.decision.specs.declared.lens.Lens.the-variants.{Minutes}
 use Rattle.decision.specs.declared.question.Refused.{Refused}
@@ -202,8 +202,8 @@ file-low s e =
 
 -- a table that is refused stays as it was
 pub settle-stays : {s : List ℕ} {q : Request} {r : Settling} {t t′ : List ℕ} (why : Refused) → Settles s q r t t′ → r ≡ settlings.Refused why → Settles s q (settlings.Refused why) t t
-settle-stays why (refused w case e same) f = refused w case (sym f ∙ e) refl
-settle-stays why (settled case N held e) f = absurd (let z : _≡_ {A = ℕ} 0 1 = cc in omega arith)
+settle-stays why (refused n vs case e same) f = refused n vs case (ap settlingAs (sym f) ∙ e) refl
+settle-stays why (settled case N held e) f = absurd (gives-not-refuses (sym e ∙ ap settlingAs f))
 
 -- the next entry that waits
 module _ (x : Site) where

@@ -2,6 +2,7 @@
 use mathlib.Core.Path.{sym, ap, _∙_}
 use borrow.Author.Needs.{needs}
 use Rattle.boundary.specs.Questions.{longCode, settlingCode}
+use Rattle.decision.specs.Question.{settlingAs}
 use Rattle.boundary.proofs.questions.settling_code.Statement.{statement}
 use Rattle.boundary.proofs.questions.settling_code.Tie as tie
 
@@ -24,14 +25,14 @@ long-code-requires-2 : tie.Need-long-code-requires-2
 long-code-requires-2 c κs = search needs
 
 returns : tie.Need-returns
-returns c = c .long-code .ensures ∙ ap settlingCode (sym (c .before .before .settling .given .1))
+returns c = c .long-code .ensures ∙ ap (λ r. settlingCode (settlingAs r)) (sym (c .before .before .settling .given .1))
 
 returns-2 : tie.Need-returns-2
 returns-2 c =
     c .long-code2 .ensures
     ∙ ap (λ n. longCode n (c .before .refusal-record .result)) (c .before .before .refusal-number .ensures)
     ∙ ap (longCode _) (c .before .refusal-record .ensures)
-    ∙ ap settlingCode (sym (c .before .before .before .before .settling2 .given .1))
+    ∙ ap (λ r. settlingCode (settlingAs r)) (sym (c .before .before .before .before .settling2 .given .1))
 
 pub settling-code-spec : {M : Type 1} → statement M
 settling-code-spec =

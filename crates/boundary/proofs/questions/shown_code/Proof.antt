@@ -2,6 +2,7 @@
 use mathlib.Core.Path.{sym, ap, _∙_}
 use borrow.Author.Needs.{needs}
 use Rattle.boundary.specs.Questions.{shownCode}
+use Rattle.decision.specs.Question.{shownAs}
 use Rattle.boundary.proofs.questions.shown_code.Statement.{statement}
 use Rattle.boundary.proofs.questions.shown_code.Tie as tie
 
@@ -20,8 +21,8 @@ code-of-requires-2 c κs = search needs
 enum-known-shown : tie.Need-enum-known-shown
 enum-known-shown c = search needs
 
-refused-code-requires : tie.Need-refused-code-requires
-refused-code-requires c κs = search needs
+code-of-requires-3 : tie.Need-code-of-requires-3
+code-of-requires-3 c κs = search needs
 
 returns : tie.Need-returns
 returns c = search needs
@@ -30,7 +31,7 @@ returns-2 : tie.Need-returns-2
 returns-2 c = search needs
 
 returns-3 : tie.Need-returns-3
-returns-3 c = c .refused-code .ensures ∙ ap shownCode (sym (c .before .before .shown .given .1))
+returns-3 c = c .code-of3 .ensures ∙ ap (λ r. shownCode (shownAs r)) (sym (c .before .before .shown .given .1))
 
 pub shown-code-spec : {M : Type 1} → statement M
 shown-code-spec =
@@ -41,7 +42,7 @@ shown-code-spec =
     enum-told-2
     code-of-requires-2
     enum-known-shown
-    refused-code-requires
+    code-of-requires-3
     returns
     returns-2
     returns-3)

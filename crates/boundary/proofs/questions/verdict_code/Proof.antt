@@ -2,6 +2,7 @@
 use mathlib.Core.Path.{sym, ap, _∙_}
 use borrow.Author.Needs.{needs}
 use Rattle.boundary.specs.Questions.{wideCode, verdictCode}
+use Rattle.boundary.proofs.CodesQuestions.{refused-told}
 use Rattle.boundary.proofs.questions.verdict_code.Statement.{statement}
 use Rattle.boundary.proofs.questions.verdict_code.Tie as tie
 
@@ -55,6 +56,7 @@ returns-4 c =
     c .wide-code4 .ensures
     ∙ ap (λ n. wideCode n 0 0 (c .before .refusal-record .result)) (c .before .before .refusal-number .ensures)
     ∙ ap (wideCode _ 0 0) (c .before .refusal-record .ensures)
+    ∙ sym (refused-told (c .before .before .before .before .verdict4 .given .0 .0) .coded)
     ∙ ap verdictCode (sym (c .before .before .before .before .verdict4 .given .1))
 
 pub verdict-code-spec : {M : Type 1} → statement M

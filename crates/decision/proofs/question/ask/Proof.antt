@@ -5,7 +5,6 @@ use denote.Ref.{now}
 use lib.ListN.{length}
 use lib.Seq.{length-take-le}
 use Rattle.decision.specs.Question.{admittedAs, Judged.refused, Judged.answered}
-use Rattle.decision.specs.declared.question.Refused.the-variants.{Places}
 use Rattle.wac.specs.Limits.{entries}
 use Rattle.decision.proofs.AskLaws.{admitted-ready, ask-refused, few-minutes, few-steps, few-chain, ask-given, answered-back}
 use Rattle.decision.proofs.question.ask.Statement.{statement}
@@ -24,19 +23,19 @@ returns : tie.Need-returns
 returns c =
     let args = c .before .before .before .before .before .before .before .before .before .args in
     let given = sym (c .before .before .before .before .admit .ensures) ∙ ap admittedAs (c .before .before .admitted2 .given .1) in
-    refused Places (few-minutes (now (args .file)) _ (length (now (args .minutes))) (length (now (args .steps))) (length (now (args .chain))) given (c .if1 .taken)) refl refl refl refl
+    refused _ _ (few-minutes (now (args .file)) _ (length (now (args .minutes))) (length (now (args .steps))) (length (now (args .chain))) given (c .if1 .taken)) refl refl refl refl
 
 returns-2 : tie.Need-returns-2
 returns-2 c =
     let args = c .before .before .before .before .before .before .before .before .before .before .args in
     let given = sym (c .before .before .before .before .before .admit .ensures) ∙ ap admittedAs (c .before .before .before .admitted2 .given .1) in
-    refused Places (few-steps (now (args .file)) _ (length (now (args .minutes))) (length (now (args .steps))) (length (now (args .chain))) given (c .before .if1 .left) (c .if2 .taken)) refl refl refl refl
+    refused _ _ (few-steps (now (args .file)) _ (length (now (args .minutes))) (length (now (args .steps))) (length (now (args .chain))) given (c .before .if1 .left) (c .if2 .taken)) refl refl refl refl
 
 returns-3 : tie.Need-returns-3
 returns-3 c =
     let args = c .before .before .before .before .before .before .before .before .before .before .before .args in
     let given = sym (c .before .before .before .before .before .before .admit .ensures) ∙ ap admittedAs (c .before .before .before .before .admitted2 .given .1) in
-    refused Places (few-chain (now (args .file)) _ (length (now (args .minutes))) (length (now (args .steps))) (length (now (args .chain))) given (c .before .before .if1 .left) (c .before .if2 .left) (c .if3 .taken)) refl refl refl refl
+    refused _ _ (few-chain (now (args .file)) _ (length (now (args .minutes))) (length (now (args .steps))) (length (now (args .chain))) given (c .before .before .if1 .left) (c .before .if2 .left) (c .if3 .taken)) refl refl refl refl
 
 slice-relend-prefix-judge : tie.Need-slice-relend-prefix-judge
 slice-relend-prefix-judge c = search needs
@@ -63,7 +62,7 @@ judge-requires c κs =
 returns-4 : tie.Need-returns-4
 returns-4 c =
     let args = c .before .before .before .before .before .before .before .before .args in
-    refused (c .before .admitted .given .0 .0) (ask-refused (now (args .file)) _ (length (now (args .minutes))) (length (now (args .steps))) (length (now (args .chain))) (c .before .admitted .given .0 .0) (sym (c .before .before .before .admit .ensures) ∙ ap admittedAs (c .before .admitted .given .1))) refl refl refl refl
+    refused _ _ (ask-refused (now (args .file)) _ (length (now (args .minutes))) (length (now (args .steps))) (length (now (args .chain))) (c .before .admitted .given .0 .0) (sym (c .before .before .before .admit .ensures) ∙ ap admittedAs (c .before .admitted .given .1))) refl refl refl refl
 
 same-length : tie.Need-same-length
 same-length c = search needs

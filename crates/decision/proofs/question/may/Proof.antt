@@ -3,7 +3,7 @@ use mathlib.Core.Path.{subst}
 use native.Mathlib.Omega.{arith}
 use borrow.Author.Needs.{needs}
 use denote.Ref.{now}
-use Rattle.decision.specs.Question.{requestOf, Shows}
+use Rattle.decision.specs.Question.{requestOf, shownAs, Shows}
 use Rattle.decision.proofs.AskLaws.{shownOf, verdict-shown}
 use Rattle.decision.proofs.question.may.Statement.{statement}
 use Rattle.decision.proofs.question.may.Tie as tie
@@ -36,29 +36,33 @@ returns : tie.Need-returns
 returns c =
     let args = c .before .before .before .before .before .before .before .before .before .before .args in
     let asked = c .before .before .before .before .before .ask-short in
-    subst (λ r. Shows (now (args .file)) (requestOf (args .owner) (args .asker) 2 (args .at)) (shownOf r)) (c .enum-told .given .1)
+    subst (λ r. Shows (now (args .file)) (requestOf (args .owner) (args .asker) 2 (args .at)) (shownAs (shownOf r))) (c .enum-told .given .1)
     (verdict-shown (now (args .file)) (requestOf (args .owner) (args .asker) 2 (args .at)) _ _ _ _ _ _ (omega arith) (omega arith) (omega arith) (asked .ensures))
 
 returns-2 : tie.Need-returns-2
 returns-2 c =
     let args = c .before .before .before .before .before .before .before .before .before .before .args in
     let asked = c .before .before .before .before .before .ask-short in
-    subst (λ r. Shows (now (args .file)) (requestOf (args .owner) (args .asker) 2 (args .at)) (shownOf r)) (c .enum-told2 .given .1)
+    subst (λ r. Shows (now (args .file)) (requestOf (args .owner) (args .asker) 2 (args .at)) (shownAs (shownOf r))) (c .enum-told2 .given .1)
     (verdict-shown (now (args .file)) (requestOf (args .owner) (args .asker) 2 (args .at)) _ _ _ _ _ _ (omega arith) (omega arith) (omega arith) (asked .ensures))
 
 returns-3 : tie.Need-returns-3
 returns-3 c =
     let args = c .before .before .before .before .before .before .before .before .before .before .args in
     let asked = c .before .before .before .before .before .ask-short in
-    subst (λ r. Shows (now (args .file)) (requestOf (args .owner) (args .asker) 2 (args .at)) (shownOf r)) (c .enum-told3 .given .1)
+    subst (λ r. Shows (now (args .file)) (requestOf (args .owner) (args .asker) 2 (args .at)) (shownAs (shownOf r))) (c .enum-told3 .given .1)
     (verdict-shown (now (args .file)) (requestOf (args .owner) (args .asker) 2 (args .at)) _ _ _ _ _ _ (omega arith) (omega arith) (omega arith) (asked .ensures))
+
+refusal-number-requires : tie.Need-refusal-number-requires
+refusal-number-requires c κs = search needs
 
 returns-4 : tie.Need-returns-4
 returns-4 c =
-    let args = c .before .before .before .before .before .before .before .before .before .before .before .args in
-    let asked = c .before .before .before .before .before .before .ask-short in
-    subst (λ r. Shows (now (args .file)) (requestOf (args .owner) (args .asker) 2 (args .at)) (shownOf r)) (c .before .verdict .given .1)
-    (verdict-shown (now (args .file)) (requestOf (args .owner) (args .asker) 2 (args .at)) _ _ _ _ _ _ (omega arith) (omega arith) (omega arith) (asked .ensures))
+    let args = c .before .before .before .before .before .before .before .before .before .before .before .before .args in
+    let asked = c .before .before .before .before .before .before .before .ask-short in
+    rw (c .refusal-number .ensures)
+    (subst (λ r. Shows (now (args .file)) (requestOf (args .owner) (args .asker) 2 (args .at)) (shownAs (shownOf r))) (c .before .before .verdict .given .1)
+    (verdict-shown (now (args .file)) (requestOf (args .owner) (args .asker) 2 (args .at)) _ _ _ _ _ _ (omega arith) (omega arith) (omega arith) (asked .ensures)))
 
 pub may-spec : {M : Type 1} → statement M
 may-spec =
@@ -72,6 +76,7 @@ may-spec =
     enum-told-2
     enum-told-3
     enum-known-verdict
+    refusal-number-requires
     returns
     returns-2
     returns-3

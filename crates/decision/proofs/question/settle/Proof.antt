@@ -4,7 +4,6 @@ use borrow.Author.Needs.{needs}
 use denote.Ref.{now}
 use lib.ListN.{length}
 use Rattle.decision.specs.Question.{admittedAs, Settles.refused, Settles.settled}
-use Rattle.decision.specs.declared.question.Refused.the-variants.{Places}
 use Rattle.decision.proofs.AskLaws.{admitted-ready, settle-refused, few-places, settle-given, minutes-within}
 use Rattle.decision.proofs.question.settle.Statement.{statement}
 use Rattle.decision.proofs.question.settle.Tie as tie
@@ -24,7 +23,7 @@ returns c =
     let s = now (args .file) in
     let q = args .request in
     let given = sym (c .before .before .before .before .admit .ensures) ∙ ap admittedAs (c .before .before .admitted2 .given .1) in
-    refused Places (few-places s q (length (now (args .table))) given (c .if1 .taken)) refl refl
+    refused _ _ (few-places s q (length (now (args .table))) given (c .if1 .taken)) refl refl
 
 settle-by-requires : tie.Need-settle-by-requires
 settle-by-requires c κs =
@@ -41,7 +40,7 @@ returns-2 c =
     let s = now (args .file) in
     let q = args .request in
     let given = sym (c .before .before .before .admit .ensures) ∙ ap admittedAs (c .before .admitted .given .1) in
-    refused (c .before .admitted .given .0 .0) (settle-refused s q (length (now (args .table))) (c .before .admitted .given .0 .0) given) refl refl
+    refused _ _ (settle-refused s q (length (now (args .table))) (c .before .admitted .given .0 .0) given) refl refl
 
 same-length : tie.Need-same-length
 same-length c = search needs

@@ -1,11 +1,11 @@
 -- `stock` meets its contract: the read screen for each key, or the refusal of the first.
 use mathlib.Core.Logic.{⊎-elim}
-use mathlib.Core.Path.{_≡_, refl, sym, _∙_, subst}
+use mathlib.Core.Path.{_≡_, refl, sym, ap, _∙_, subst}
 use Prim.Native.Nat.{_<_, _%_, _-_}
 use native.Mathlib.Omega.{arith}
 use borrow.Author.Needs.{needs}
 use denote.Ref.{now}
-use Rattle.decision.specs.Question.{requestOf, Shows, Stocks.refused, Stocks.given}
+use Rattle.decision.specs.Question.{requestOf, shownAs, Shows, Stocks.refused, Stocks.given}
 use Rattle.wac.specs.Limits.{keys}
 use Rattle.decision.proofs.AskLaws.{stocking-start, stocking-yes, stocking-no, Stocking, shown-refused, asker-alike}
 use Rattle.decision.proofs.question.stock.Statement.{statement}
@@ -44,9 +44,9 @@ returns c =
     let key = c .before .before .before .before .before .loop .key in
     let low : key < keys = c .before .before .before .before .loop-test .taken in
     let same : key % 256 ≡ key = omega arith in
-    let why = c .before .shown .given .0 .0 in
-    let shown = subst (Shows (now (args .file)) (requestOf (args .owner) (key % 256) 2 (args .at))) (c .before .shown .given .1) (c .before .before .before .may .ensures) in
-    refused why (sym (asker-alike (now (args .file)) (args .owner) (key % 256) 2 (args .at) (rw same low)) ∙ shown-refused shown) refl refl
+    let shown = subst (λ r. Shows (now (args .file)) (requestOf (args .owner) (key % 256) 2 (args .at)) (shownAs r)) (c .before .shown .given .1) (c .before .before .before .may .ensures) in
+    let same-case = shown-refused shown in
+    refused _ (same-case .0) (sym (asker-alike (now (args .file)) (args .owner) (key % 256) 2 (args .at) (rw same low)) ∙ same-case .1) refl refl
 
 add-key : tie.Need-add-key Inv-loop μ-loop
 add-key c = search needs
@@ -60,15 +60,15 @@ loop-again c =
     let loop = c .before .before .before .loop in
     let low : loop .key < keys = c .before .before .loop-test .taken in
     let same : loop .key % 256 ≡ loop .key = omega arith in
-    let shown = subst (λ k. Shows (now (args .file)) (requestOf (args .owner) k 2 (args .at)) (c .before .may .result)) same (c .before .may .ensures) in
+    let shown = subst (λ k. Shows (now (args .file)) (requestOf (args .owner) k 2 (args .at)) (shownAs (c .before .may .result))) same (c .before .may .ensures) in
     ⊎-elim
-    (λ yes. rw (yes .2) (stocking-yes (now (args .file)) _ _ _ (loop .keys) (loop .inv) low shown (yes .1 .given .1)))
-    (λ no. rw (no .2) (stocking-no (now (args .file)) _ _ _ (loop .keys) (loop .inv) low shown (no .1 .given .1)))
+    (λ yes. rw (yes .2) (stocking-yes (now (args .file)) _ _ _ (loop .keys) (loop .inv) low shown (ap shownAs (yes .1 .given .1))))
+    (λ no. rw (no .2) (stocking-no (now (args .file)) _ _ _ (loop .keys) (loop .inv) low shown (ap shownAs (no .1 .given .1))))
     (c .match .came)
 
 returns-2 : tie.Need-returns-2 Inv-loop μ-loop
 returns-2 c =
-    given (λ k low. c .before .loop .inv .shown k (omega (arith, c .loop-test .left))) refl (c .before .loop .inv .long)
+    given _ (λ k low. c .before .loop .inv .shown k (omega (arith, c .loop-test .left))) (c .before .loop .inv .long) refl
 
 pub stock-spec : {M : Type 1} → statement M
 stock-spec =
