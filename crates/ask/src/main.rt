@@ -12,6 +12,9 @@ fn main() {
     }
     let count = input.count;
     if !lines::answer(&question[..count]).whole {
-        io::write_all(libc::STDERR_FILENO, b"ask: standard output cannot be written\n");
+        io::write_all(
+            libc::STDERR_FILENO,
+            b"ask: standard output cannot be written\n",
+        );
     }
 }

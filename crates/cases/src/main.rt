@@ -14,7 +14,10 @@ fn length_of(high: u8, low: u8) -> usize
 fn fills(bytes: &mut [u8]) -> bool {
     let input = lines::read_input(bytes);
     if input.failed {
-        io::write_all(libc::STDERR_FILENO, b"cases: standard input cannot be read\n");
+        io::write_all(
+            libc::STDERR_FILENO,
+            b"cases: standard input cannot be read\n",
+        );
         return false;
     }
     input.count == bytes.len()
@@ -27,7 +30,10 @@ fn answer_in(question: &mut [u8]) -> bool {
     }
     let printed = lines::answer(question);
     if !printed.whole {
-        io::write_all(libc::STDERR_FILENO, b"cases: standard output cannot be written\n");
+        io::write_all(
+            libc::STDERR_FILENO,
+            b"cases: standard output cannot be written\n",
+        );
     }
     printed.whole
 }

@@ -1,12 +1,13 @@
 -- Laws about lines: what the pieces of each verdict's line come to.
 use mathlib.Core.Path.{_≡_, refl, sym, ap, _∙_}
+use mathlib.Core.Bool.{Bool}
 use mathlib.Core.Logic.{by-cases}
 use mathlib.Core.List.{List, [], _∷_, _++_, append-assoc, append-nil}
 use Prim.Native.Nat.{ℕ, zero, suc, _+_, _*_, _^_, _≤_, _<_, min}
 use native.Mathlib.Nat.{min-eq-left, min-eq-right}
 use native.Mathlib.Decide.{decLe}
 use native.Mathlib.Omega.{arith}
-use lib.ListN.{length, take, getD, length-append}
+use lib.ListN.{length, take, getD, replicate, length-append}
 use lib.Seq.{take-length, take-all}
 use Rattle.wac.specs.declared.refusal.Refusal.{Refusal}
 use Rattle.wac.specs.declared.refusal.Refusal.the-variants as files
@@ -16,7 +17,7 @@ use Rattle.decision.specs.declared.question.Refused as questions
 use Rattle.decision.specs.declared.question.Refused.the-variants.{File, Keys, Rights, Minute, Places}
 use Rattle.decision.specs.declared.question.Verdict.the-variants as verdicts
 use Rattle.lines.specs.Text.{space, newline, decimal, fields, Put}
-use Rattle.lines.specs.Question.{lineRoom, granted, refused, line, lineBy, lineOf, linedAs, Answers, cramped, short, asked}
+use Rattle.lines.specs.Question.{lineRoom, granted, refused, line, lineBy, lineOf, linedAs, lengthOf, Answers, cramped, short, asked, Prints}
 use Rattle.lines.specs.declared.question.Lined.{Lined}
 use Rattle.lines.specs.declared.question.Lined.the-variants.{Length, Refused}
 use Rattle.lines.proofs.TextLaws.{fields-append}
@@ -72,7 +73,7 @@ put-within : {out piece out′ : List ℕ} {r : ℕ} → Put out 0 piece r out�
 put-within {out} {piece} p = omega (arith, p .end, simp length-append at (ap length (p .bytes)))
 
 -- a line's length is within the bytes,
-pub answers-within : {s out out′ : List ℕ} {r : Lined} {n : ℕ} → Answers s out r out′ → r ≡ Length n → n ≤ length out′
+answers-within : {s out out′ : List ℕ} {r : Lined} {n : ℕ} → Answers s out r out′ → r ≡ Length n → n ≤ length out′
 answers-within (cramped few e same) is = absurd (unlike (sym e ∙ ap linedAs is))
   where
     unlike : {n m : ℕ} {vs : List ℕ} → _≡_ {A = Answer ℕ} (refuses m vs) (gives n) → ⊥
@@ -80,8 +81,15 @@ answers-within (cramped few e same) is = absurd (unlike (sym e ∙ ap linedAs is
 answers-within {n = n} (short room few end put e) is = let same : n ≡ end = cc in rw same (put-within put)
 answers-within {n = n} (asked room long end asks e) is = let same : n ≡ end = cc in rw same (put-within (asks .put))
 
--- and where there is room no line is refused.
-pub answers-room : {s out out′ : List ℕ} {r : Lined} → Answers s out r out′ → lineRoom ≤ length out → r ≡ Refused → ⊥
+-- and where there is room no line is refused,
+answers-room : {s out out′ : List ℕ} {r : Lined} → Answers s out r out′ → lineRoom ≤ length out → r ≡ Refused → ⊥
 answers-room (cramped few e same) h is = omega arith
 answers-room (short room few end put e) h is = let z : _≡_ {A = ℕ} 0 1 = cc in omega arith
 answers-room (asked room long end asks e) h is = let z : _≡_ {A = ℕ} 0 1 = cc in omega arith
+
+-- so all of it is printed.
+pub answers-printed : {s out′ : List ℕ} {r : Lined} {n : ℕ} {whole : Bool} → Answers s (replicate lineRoom 0) r out′ →
+    n ≡ min (lengthOf r) (length out′) → Prints s (record { length = n; whole = whole })
+answers-printed {out′ = out′} {r = Length k} {n = n} a e =
+    let same : n ≡ k = e ∙ min-eq-left (answers-within a refl) in record { bytes = out′; line = rw same a }
+answers-printed {out′ = out′} {r = Refused} a e = absurd (answers-room a (omega arith) refl)

@@ -66,6 +66,11 @@ abbrev pub linedAs : Lined → Answer ℕ
 linedAs (Length n) = gives n
 linedAs Refused = refuses 23 []
 
+-- the length of a line that was written, 0 where none was
+abbrev pub lengthOf : Lined → ℕ
+lengthOf (Length n) = n
+lengthOf Refused = 0
+
 -- the line of the verdict on a question is put to the front of lent bytes
 pub record Asks (s : List ℕ) (q : Request) (out : List ℕ) (end : ℕ) (out′ : List ℕ) : Type 0 where
   pub verdict : Verdict

@@ -24,10 +24,14 @@ places (suc k) n = cond (ltb n 10) 1 (suc (places k (n / 10)))
 unfoldable pub decimal : ℕ → List ℕ
 decimal n = digits 10 (places 19 n) n
 
--- numbers as fields, each after a space
+-- a number as a field, after a space
+abbrev pub field : ℕ → List ℕ
+field n = space ∷ decimal n
+
+-- numbers as fields
 unfoldable pub fields : List ℕ → List ℕ
 fields [] = []
-fields (n ∷ ns) = space ∷ decimal n ++ fields ns
+fields (n ∷ ns) = field n ++ fields ns
 
 -- the piece stands from a place on, at whose end r is; all other bytes are as they were
 pub record Put (out : List ℕ) (at : ℕ) (piece : List ℕ) (r : ℕ) (out′ : List ℕ) : Type 0 where

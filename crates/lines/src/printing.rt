@@ -1,8 +1,12 @@
 // Lines on standard output.
 use crate::question::Line;
 use crate::question::Lined;
+use crate::question::least;
 use crate::question::question_line;
-ghost use Rattle.lines.specs.Question.{Prints};
+ghost use mathlib.Core.Path.{_≡_};
+ghost use Prim.Native.Nat.{min};
+ghost use lib.ListN.{length};
+ghost use Rattle.lines.specs.Question.{lengthOf, Prints};
 
 // The length of the line that was handed over to be written, and whether all of it was.
 pub struct Printed {
@@ -10,15 +14,14 @@ pub struct Printed {
     pub whole: bool,
 }
 
-// Writes the line of a question's bytes to standard output. No contract can say what was written; what is
-// said is that the line handed over is the question's.
-pub fn answer(question: &[u8]) -> Printed
-    ensures { λ r. ⌜ Prints (now (question .entry)) r ⌝ }
+// Writes a line that stands at the front of the lent bytes to standard output. No contract can say what
+// was written; what is said is how many of the bytes were handed over.
+pub fn print(lined: Lined, line: &[u8]) -> Printed
+    ensures { λ r. ⌜ r .length ≡ min (lengthOf lined) (length (now (line .entry))) ⌝ }
 {
-    let mut line = [0u8; Line::ROOM];
-    let lined = question_line(question, &mut line);
     match lined {
-        Lined::Length(length) => {
+        Lined::Length(end) => {
+            let length = least(end, line.len());
             let whole = io::write_all(libc::STDOUT_FILENO, &line[..length]);
             Printed {
                 length: length,
@@ -30,4 +33,13 @@ pub fn answer(question: &[u8]) -> Printed
             whole: false,
         },
     }
+}
+
+// Writes the line of a question's bytes to standard output.
+pub fn answer(question: &[u8]) -> Printed
+    ensures { λ r. ⌜ Prints (now (question .entry)) r ⌝ }
+{
+    let mut line = [0u8; Line::ROOM];
+    let lined = question_line(question, &mut line);
+    print(lined, &line)
 }

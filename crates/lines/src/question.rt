@@ -41,7 +41,7 @@ pub enum Lined {
 }
 
 // The lesser of two lengths.
-fn least(x: usize, y: usize) -> usize
+pub fn least(x: usize, y: usize) -> usize
     ensures { λ r. ⌜ r ≡ min x y ⌝ }
 {
     if x < y { x } else { y }

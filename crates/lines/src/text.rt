@@ -2,7 +2,7 @@
 ghost use mathlib.Core.List.{[], _∷_, _++_};
 ghost use Prim.Native.Nat.{_+_, _≤_};
 ghost use lib.ListN.{length};
-ghost use Rattle.lines.specs.Text.{space, newline, decimal, fields, Put};
+ghost use Rattle.lines.specs.Text.{newline, decimal, field, fields, Put};
 
 // A word.
 pub fn put_word(out: &mut [u8], at: usize, word: &[u8]) -> usize
@@ -16,7 +16,7 @@ pub fn put_word(out: &mut [u8], at: usize, word: &[u8]) -> usize
 // A space, and a number in decimal.
 pub fn put_number(out: &mut [u8], at: usize, n: u64) -> usize
     requires { ⌜ at + 1 + length (decimal n) ≤ length (now out) ⌝ }
-    ensures { λ r. ⌜ Put (now (out .entry)) at (space ∷ decimal n) r (now (out .exit)) ⌝ }
+    ensures { λ r. ⌜ Put (now (out .entry)) at (field n) r (now (out .exit)) ⌝ }
 {
     let mut digits = [0u8; 20];
     let count = io::decimal(n, &mut digits);

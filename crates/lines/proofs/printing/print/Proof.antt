@@ -1,0 +1,45 @@
+-- `print` meets its contract: no more than the lent bytes is handed over.
+use mathlib.Core.Path.{sym, ap, _∙_}
+use native.Mathlib.Omega.{arith}
+use lib.Seq.{length-take-le}
+use lib.ListN.{length}
+use Prim.Native.Nat.{min}
+use native.Mathlib.Nat.{zero-min}
+use denote.Ref.{now}
+use Rattle.lines.specs.Question.{lengthOf}
+use borrow.Author.Needs.{needs}
+use Rattle.lines.proofs.printing.print.Statement.{statement}
+use Rattle.lines.proofs.printing.print.Tie as tie
+
+enum-known-lined : tie.Need-enum-known-lined
+enum-known-lined c = search needs
+
+least-requires : tie.Need-least-requires
+least-requires c κs = search needs
+
+slice-aggregate-write-all : tie.Need-slice-aggregate-write-all
+slice-aggregate-write-all c = sym (length-take-le _ _ (omega (arith, c .before .least .ensures)))
+
+write-all-requires : tie.Need-write-all-requires
+write-all-requires c κs = search needs
+
+enum-told : tie.Need-enum-told
+enum-told c = search needs
+
+returns : tie.Need-returns
+returns c = rw (c .before .before .before .before .lined .given .1) (c .before .before .least .ensures)
+
+returns-2 : tie.Need-returns-2
+returns-2 c = rw (c .enum-told .given .1, zero-min)
+
+pub print-spec : {M : Type 1} → statement M
+print-spec =
+    tie.close
+    (tie.spec
+    enum-known-lined
+    least-requires
+    slice-aggregate-write-all
+    write-all-requires
+    enum-told
+    returns
+    returns-2)
