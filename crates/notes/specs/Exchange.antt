@@ -1,6 +1,7 @@
--- Full exchanges: one site works and sends all its notes; the other takes them all and the receipts are all taken; then the same the
--- other way round (document 01, "Two sites"). On tables this comes to: all that the one held when it had worked is receipted in the end.
--- Before and after it works anything may happen on the line: notes in any order and repeatedly, late ones of before, further work.
+-- Full exchanges: one site works and sends all its notes; the other takes them all and the receipts are all taken;
+-- then the same the other way round (document 01, "Two sites"). On tables all of this comes to one thing: what the one
+-- held when it had worked is receipted in the end. How the notes came there is left open: in any order, repeatedly,
+-- late, among any other steps of the line. (That all notes sent, taken and receipted come to this is shown of the sites.)
 use Prim.Native.Nat.{ℕ, zero, suc, _≤_}
 use Rattle.rewriting.specs.Rewriting.{Rules, Question}
 use Rattle.rewriting.specs.Entries.{Entry}
@@ -30,4 +31,5 @@ pub record Full (Q : Question) (R T : Rules) (x y : System) : Type 0 where
 pub data Exchanges (Q : Question) (R T : Rules) (x : System) : ℕ → System → Type 0 where
   begin : Exchanges Q R T x zero x
   from-a : {n : ℕ} {y z : System} → Exchanges Q R T x n y → Full Q R T y z → Exchanges Q R T x (suc n) z
-  from-b : {n : ℕ} {y z : System} → Exchanges Q R T x n y → Full Q T R (swap y) (swap z) → Exchanges Q R T x (suc n) z
+  from-b : {n : ℕ} {y z : System} → Exchanges Q R T x n y → Full Q T R (swap y) (swap z) →
+      Exchanges Q R T x (suc n) z

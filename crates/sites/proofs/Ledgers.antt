@@ -1,7 +1,7 @@
 -- What the functions make of a site is what the note rules make of its tables: opening, working, taking a note, writing one, rest.
 use mathlib.Core.Path.{_≡_, refl, sym, ap, _∙_, subst, subst₂, fun-ext}
 use mathlib.Core.Bool.{Bool, true, false, cond, _&&_, true≢false}
-use mathlib.Core.Logic.{_⊎_, ⊎-elim}
+use mathlib.Core.Logic.{⊎-elim}
 use mathlib.Core.List.{List, [], _∷_, _++_, map, List·Memᴰ, List·Memᴰ·cases-cons}
 use Prim.Native.Nat.{ℕ, _≤_, _<_, max}
 use native.Mathlib.Omega.{arith}
@@ -235,8 +235,7 @@ module _ {s : List ℕ} {q : Request} {session : ℕ} (word : session ≤ withou
   -- of the refusals only the last can hold
   only-late : firstOf (noteCases x b (length l)) (said .kind) ≡ firstOf ((28 if isLate) ∷ []) (said .kind)
   only-late =
-      let whole = note-whole b (h .ok) in
-      this-session x b (length l) (said .kind) room (whole .0) said refl (whole .1) (st .live) (h .of-session ∙ sym (st .of-session))
+      this-session x b (length l) (said .kind) room (h .ok) said refl (st .live) (h .of-session ∙ sym (st .of-session))
 
   given-late : {v : ℕ} → gives v ≡ firstOf (noteCases x b (length l)) (said .kind) → (isLate ≡ false) × (said .kind ≡ v)
   given-late e =

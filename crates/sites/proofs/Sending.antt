@@ -47,15 +47,9 @@ module _ (x : Site) where
       le-leb (minuteAt x e) (receiptedAt x e)
       (omega (arith, r .all _ _ _ (entry-of _ _ _ (entry-back e low)), table-number (x .minutes) e low, table-number (x .receipted) e low))))
 
--- an entry waits in a site exactly if it waits in its tables
-module _ (x : Site) where
-  pub due-tables : (e : ℕ) → e < entries → DueAt x e → rules.Due (ledger x) (keyOf e) (symbolOf e) (arrivalOf e)
-  due-tables e low d = omega (arith, d, table-number (x .minutes) e low, table-number (x .receipted) e low)
-
-  pub tables-due : (k s a : ℕ) → Entry keys k s a → rules.Due (ledger x) k s a → DueAt x (number k s a)
-  tables-due k s a e d =
-      let t = is-entry k s a e in
-      omega (arith, d, table-at (x .minutes) k s a t, table-at (x .receipted) k s a t)
+-- an entry that waits in a site waits in its tables
+pub due-tables : (x : Site) (e : ℕ) → e < entries → DueAt x e → rules.Due (ledger x) (keyOf e) (symbolOf e) (arrivalOf e)
+due-tables x e low d = omega (arith, d, table-number (x .minutes) e low, table-number (x .receipted) e low)
 
 -- the note that stands in the lent bytes is that of the lowest entry that waits
 pub record SentNote (x : Site) (from e : ℕ) (l : List ℕ) : Type 0 where

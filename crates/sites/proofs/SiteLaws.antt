@@ -98,6 +98,14 @@ pub note-whole : (b : List ℕ) → noteOk b ≡ true → (length b ≡ noteLeng
 unfolding noteOk
 note-whole b ok = let both = and-both _ _ ok in (eqb-true _ _ (both .0), both .1)
 
+pub wrong-length : (b : List ℕ) → (length b ≡ noteLength → ⊥) → noteOk b ≡ false
+unfolding noteOk
+wrong-length b n = false-and _ _ (ne-eqb _ _ n)
+
+pub right-length : (b : List ℕ) → length b ≡ noteLength → noteOk b ≡ formed (noteFrom b)
+unfolding noteOk
+right-length b e = and-true _ _ (eq-eqb _ _ e)
+
 -- what becomes of a note, case by case
 module _ (x : Site) (b : List ℕ) (room kind : ℕ) where
   pub few-bytes : room < noteLength → firstOf (noteCases x b room) kind ≡ refuses 23 []
@@ -105,44 +113,39 @@ module _ (x : Site) (b : List ℕ) (room kind : ℕ) where
   few-bytes h = first-holds _ _ _ (lt-ltb _ _ h)
 
   module _ (h : noteLength ≤ room) where
-    pub wrong-length : (length b ≡ noteLength → ⊥) → firstOf (noteCases x b room) kind ≡ refuses 27 []
-    unfolding noteCases noteOk
-    wrong-length n = first-fails _ _ _ (le-ltb _ _ h) ∙ first-holds _ _ _ (ap not (false-and _ _ (ne-eqb _ _ n)))
+    pub no-note : noteOk b ≡ false → firstOf (noteCases x b room) kind ≡ refuses 27 []
+    unfolding noteCases
+    no-note e = first-fails _ _ _ (le-ltb _ _ h) ∙ first-holds _ _ _ (ap not e)
 
-    module _ (long : length b ≡ noteLength) (said : Note) (says : said ≡ noteFrom b) where
-      pub ill-formed : formed said ≡ false → firstOf (noteCases x b room) kind ≡ refuses 27 []
-      unfolding noteCases noteOk
-      ill-formed e = first-fails _ _ _ (le-ltb _ _ h) ∙ first-holds _ _ _ (ap not (and-true _ _ (eq-eqb _ _ long) ∙ ap formed (sym says) ∙ e))
+    module _ (ok : noteOk b ≡ true) (said : Note) (says : said ≡ noteFrom b) where
+      a-note : firstOf (noteCases x b room) kind ≡ firstOf ((26 if not (x .live && eqb (said .session) (x .session))) ∷ (28 if eqb (said .kind) receiptKind && ltb (minuteAt x (entryOf said)) (said .minute)) ∷ []) kind
+      unfolding noteCases
+      a-note =
+          first-fails _ _ _ (le-ltb _ _ h) ∙ first-fails _ _ _ (ap not ok)
+          ∙ ap (λ n. firstOf ((26 if not (x .live && eqb (n .session) (x .session))) ∷ (28 if eqb (n .kind) receiptKind && ltb (minuteAt x (entryOf n)) (n .minute)) ∷ []) kind) (sym says)
 
-      module _ (ok : formed said ≡ true) where
-        well-formed : firstOf (noteCases x b room) kind ≡ firstOf ((26 if not (x .live && eqb (said .session) (x .session))) ∷ (28 if eqb (said .kind) receiptKind && ltb (minuteAt x (entryOf said)) (said .minute)) ∷ []) kind
-        unfolding noteCases noteOk
-        well-formed =
-            first-fails _ _ _ (le-ltb _ _ h) ∙ first-fails _ _ _ (ap not (and-true _ _ (eq-eqb _ _ long) ∙ ap formed (sym says) ∙ ok))
-            ∙ ap (λ n. firstOf ((26 if not (x .live && eqb (n .session) (x .session))) ∷ (28 if eqb (n .kind) receiptKind && ltb (minuteAt x (entryOf n)) (n .minute)) ∷ []) kind) (sym says)
+      pub not-live : x .live ≡ false → firstOf (noteCases x b room) kind ≡ refuses 26 []
+      not-live e = a-note ∙ first-holds _ _ _ (ap not (false-and _ _ e))
 
-        pub not-live : x .live ≡ false → firstOf (noteCases x b room) kind ≡ refuses 26 []
-        not-live e = well-formed ∙ first-holds _ _ _ (ap not (false-and _ _ e))
+      module _ (live : x .live ≡ true) where
+        pub other-session : (said .session ≡ x .session → ⊥) → firstOf (noteCases x b room) kind ≡ refuses 26 []
+        other-session n = a-note ∙ first-holds _ _ _ (ap not (and-true _ _ live ∙ ne-eqb _ _ n))
 
-        module _ (live : x .live ≡ true) where
-          pub other-session : (said .session ≡ x .session → ⊥) → firstOf (noteCases x b room) kind ≡ refuses 26 []
-          other-session n = well-formed ∙ first-holds _ _ _ (ap not (and-true _ _ live ∙ ne-eqb _ _ n))
+        module _ (same : said .session ≡ x .session) where
+          pub this-session : firstOf (noteCases x b room) kind ≡ firstOf ((28 if eqb (said .kind) receiptKind && ltb (minuteAt x (entryOf said)) (said .minute)) ∷ []) kind
+          this-session = a-note ∙ first-fails _ _ _ (ap not (and-true _ _ live ∙ eq-eqb _ _ same))
 
-          module _ (same : said .session ≡ x .session) where
-            pub this-session : firstOf (noteCases x b room) kind ≡ firstOf ((28 if eqb (said .kind) receiptKind && ltb (minuteAt x (entryOf said)) (said .minute)) ∷ []) kind
-            this-session = well-formed ∙ first-fails _ _ _ (ap not (and-true _ _ live ∙ eq-eqb _ _ same))
+          pub taken-raise : said .kind ≡ raiseKind → firstOf (noteCases x b room) kind ≡ gives kind
+          taken-raise e = this-session ∙ first-fails _ _ _ (false-and _ _ (ap (λ n. eqb n receiptKind) e)) ∙ first-none _
 
-            pub taken-raise : said .kind ≡ raiseKind → firstOf (noteCases x b room) kind ≡ gives kind
-            taken-raise e = this-session ∙ first-fails _ _ _ (false-and _ _ (ap (λ n. eqb n receiptKind) e)) ∙ first-none _
+          module _ (e : ℕ) (at : e ≡ entryOf said) where
+            pub later-minute : said .kind ≡ receiptKind → minuteAt x e < said .minute → firstOf (noteCases x b room) kind ≡ refuses 28 []
+            later-minute k l = this-session ∙ first-holds _ _ _ (and-true _ _ (eq-eqb _ _ k) ∙ ap (λ i. ltb (minuteAt x i) (said .minute)) (sym at) ∙ lt-ltb _ _ l)
 
-            module _ (e : ℕ) (at : e ≡ entryOf said) where
-              pub later-minute : said .kind ≡ receiptKind → minuteAt x e < said .minute → firstOf (noteCases x b room) kind ≡ refuses 28 []
-              later-minute k l = this-session ∙ first-holds _ _ _ (and-true _ _ (eq-eqb _ _ k) ∙ ap (λ i. ltb (minuteAt x i) (said .minute)) (sym at) ∙ lt-ltb _ _ l)
-
-              pub taken-receipt : said .minute ≤ minuteAt x e → firstOf (noteCases x b room) kind ≡ gives kind
-              taken-receipt l =
-                  let low = ap (λ i. ltb (minuteAt x i) (said .minute)) (sym at) ∙ le-ltb _ _ l in
-                  this-session ∙ first-fails _ _ _ (ap (λ t. eqb (said .kind) receiptKind && t) low ∙ and-false (eqb (said .kind) receiptKind)) ∙ first-none _
+            pub taken-receipt : said .minute ≤ minuteAt x e → firstOf (noteCases x b room) kind ≡ gives kind
+            taken-receipt l =
+                let low = ap (λ i. ltb (minuteAt x i) (said .minute)) (sym at) ∙ le-ltb _ _ l in
+                this-session ∙ first-fails _ _ _ (ap (λ t. eqb (said .kind) receiptKind && t) low ∙ and-false (eqb (said .kind) receiptKind)) ∙ first-none _
 
   -- a note that is taken has room for its receipt, and is in order
   pub taken-whole : {n : ℕ} → firstOf (noteCases x b room) kind ≡ gives n → (noteLength ≤ room) × (length b ≡ noteLength) × (formed (noteFrom b) ≡ true)

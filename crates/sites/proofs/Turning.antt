@@ -10,7 +10,6 @@ use native.Mathlib.Decide.{decLt, ℕ-discrete}
 use lib.ListN.{length, take}
 use Rattle.wac.specs.Limits.{entries}
 use Rattle.wac.specs.Answers.{gives, firstOf}
-use Rattle.decision.specs.Table.{keyOf, symbolOf, arrivalOf}
 use Rattle.decision.specs.declared.request.Request.{Request}
 use Rattle.decision.proofs.TableLaws.{entry-back, number-back}
 use Rattle.sites.specs.Notes.{noteLength, noteFrom, noteBytes}
@@ -23,7 +22,7 @@ use Rattle.sites.specs.declared.site.Taken.{Taken}
 use Rattle.sites.specs.declared.site.Taken.the-variants as takens
 use Rattle.sites.specs.declared.site.Taking.{Taking}
 use Rattle.sites.specs.declared.site.Sending.the-variants as sendings
-use Rattle.sites.proofs.SiteLaws.{note-whole, taken-raise, taken-receipt}
+use Rattle.sites.proofs.SiteLaws.{taken-raise, taken-receipt}
 use Rattle.sites.proofs.Unique.{taken-apart}
 use Rattle.sites.proofs.NoteLaws.{note-taken}
 use Rattle.sites.proofs.Sending.{Sendable, sent-note-of, sent-none-of, raise-read, raise-honest, reply-read, reply-honest}
@@ -103,9 +102,8 @@ module _ {f g : List ℕ} {q : Request} {session : ℕ} {y : System} (r : Reache
   raise-given room enough =
       let read = raise-read (r .word) (state .a-stands) sendable e low due in
       let honest = raise-honest (r .word) (state .a-stands) sendable e low due in
-      let whole = note-whole (noteBytes sent) (honest .ok) in
       let kind = ap (λ (n : Note). n .kind) read in
-      ap gives (sym kind) ∙ sym (taken-raise (y .b .site) (noteBytes sent) room _ enough (whole .0) (noteFrom (noteBytes sent)) refl (whole .1)
+      ap gives (sym kind) ∙ sym (taken-raise (y .b .site) (noteBytes sent) room _ enough (honest .ok) (noteFrom (noteBytes sent)) refl
       (state .b-stands .live) (honest .of-session ∙ sym (state .b-stands .of-session)) kind)
 
   -- and its receipt as a receipt
@@ -118,9 +116,8 @@ module _ {f g : List ℕ} {q : Request} {session : ℕ} {y : System} (r : Reache
       let b = noteBytes (receiptOf sent) in
       let read = reply-read (r .word) (state .a-stands) sendable e low due in
       let honest = reply-honest (r .word) (state .a-stands) sendable e low due in
-      let whole = note-whole b (honest .ok) in
       let held = subst (λ (n : Note). n .minute ≤ minuteAt (y .a .site) e) (sym read) (le-refl _) in
-      ap gives (sym (ap (λ (n : Note). n .kind) read)) ∙ sym (taken-receipt (y .a .site) b room _ enough (whole .0) (noteFrom b) refl (whole .1)
+      ap gives (sym (ap (λ (n : Note). n .kind) read)) ∙ sym (taken-receipt (y .a .site) b room _ enough (honest .ok) (noteFrom b) refl
       (state .a-stands .live) (honest .of-session ∙ sym (state .a-stands .of-session)) e (sym (ap entryOf read ∙ own-entry)) held)
 
   -- so whatever takes the note answers so, and what it writes is the receipt

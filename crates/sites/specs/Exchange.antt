@@ -1,6 +1,7 @@
--- Full exchanges: one site works and sends all its notes; the other takes them all and the receipts are all taken; then the same the other
--- way round (document 01, "Two sites"). Nothing that is sent is lost. But notes may come late, in any order and repeatedly, and before,
--- between and within these acts anything else may happen on the line: notes of before, further work, further notes, strays.
+-- Full exchanges: one site works and sends all its notes; the other takes them all and the receipts are all taken;
+-- then the same the other way round (document 01, "Two sites"). Nothing that is sent is lost. But notes may come late,
+-- in any order and repeatedly, and before, between and within these acts anything else may happen on the line: notes of
+-- before, further work, further notes, strays.
 use mathlib.Core.Path.{_≡_}
 use mathlib.Core.List.{List, [], _∷_, List·Memᴰ}
 use Prim.Native.Nat.{ℕ, zero, suc, _<_}
@@ -19,7 +20,8 @@ accepted takens.Receipt b ns = b ∷ ns
 accepted (takens.Refused why) b ns = ns
 
 -- the notes with the one that an act takes
-abbrev pub took : {session : ℕ} {theirs : List (List ℕ)} {p q : Party} → Act session theirs p q → List (List ℕ) → List (List ℕ)
+abbrev pub took : {session : ℕ} {theirs : List (List ℕ)} {p q : Party} → Act session theirs p q →
+    List (List ℕ) → List (List ℕ)
 took (Act.act-work x works) ns = ns
 took (Act.act-write from e l l′ sends) ns = ns
 took (Act.act-take b l l′ r m takes) ns = accepted (r .answer) b ns
@@ -37,8 +39,8 @@ taken-b Steps.none = []
 taken-b (Steps.more on (Step.step-a act)) = taken-b on
 taken-b (Steps.more on (Step.step-b act)) = took act (taken-b on)
 
--- entry e of a has its turn on a run: there is a point of the run such that, if the entry waits to be sent there, then in the rest of the
--- run b takes its note and a takes the receipt
+-- entry e of a has its turn on a run: there is a point of the run such that, if the entry waits to be sent there, then
+-- in the rest of the run b takes its note and a takes the receipt
 pub record Turn {session : ℕ} {x y : System} (run : Steps session x y) (e : ℕ) : Type 0 where
   pub point : System
   pub before : Steps session x point
@@ -71,4 +73,5 @@ pub record Full (session : ℕ) (x y : System) : Type 0 where
 pub data Exchanges (session : ℕ) (x : System) : ℕ → System → Type 0 where
   begin : Exchanges session x zero x
   from-a : {n : ℕ} {y z : System} → Exchanges session x n y → Full session y z → Exchanges session x (suc n) z
-  from-b : {n : ℕ} {y z : System} → Exchanges session x n y → Full session (swapped y) (swapped z) → Exchanges session x (suc n) z
+  from-b : {n : ℕ} {y z : System} → Exchanges session x n y → Full session (swapped y) (swapped z) →
+      Exchanges session x (suc n) z

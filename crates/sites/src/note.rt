@@ -5,7 +5,7 @@ ghost use Prim.Native.Nat.{_≤_};
 ghost use lib.ListN.{length};
 ghost use lib.Seq.{sets};
 ghost use Rattle.decision.specs.Table.{entryNumber};
-ghost use Rattle.sites.specs.Notes.{noteLength, noteFrom, noteBytes, formed};
+ghost use Rattle.sites.specs.Notes.{noteLength, noteFrom, noteBytes, formed, noteOk};
 
 // A note, as its bytes say it.
 pub struct Note {
@@ -61,6 +61,16 @@ pub fn is_formed(note: Note) -> bool
         return false;
     }
     entry_of(note) < Table::ENTRIES
+}
+
+// Are these 12 bytes with every field in range?
+pub fn is_note(bytes: &[u8]) -> bool
+    ensures { λ r. ⌜ r ≡ noteOk (now (bytes .entry)) ⌝ }
+{
+    if bytes.len() != Note::BYTES {
+        return false;
+    }
+    is_formed(note_from(bytes))
 }
 
 // The number of the entry that the note names, and 2,592 where there is no such entry.

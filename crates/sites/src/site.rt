@@ -260,13 +260,10 @@ fn answer_for(site: Site, bytes: &[u8], room: usize) -> Taken
     if room < Note::BYTES {
         return Taken::Refused(NoteRefused::Room);
     }
-    if bytes.len() != Note::BYTES {
+    if !note::is_note(bytes) {
         return Taken::Refused(NoteRefused::Form);
     }
     let said = note::note_from(bytes);
-    if !note::is_formed(said) {
-        return Taken::Refused(NoteRefused::Form);
-    }
     if !site.live {
         return Taken::Refused(NoteRefused::Session);
     }

@@ -1,6 +1,8 @@
 -- `raise_at` meets its contract: both minutes of the entry become the greater, and a rise wakes the site.
+use Prim.Native.Nat.{_≤_, _<_}
 use borrow.Author.Tests.{lt-leb, le-leb}
 use borrow.Author.Needs.{needs}
+use Rattle.sites.specs.Site.{minuteAt}
 use Rattle.sites.proofs.site.raise_at.Statement.{statement}
 use Rattle.sites.proofs.site.raise_at.Tie as tie
 
@@ -35,10 +37,16 @@ element-write-raised-2 : tie.Need-element-write-raised-2
 element-write-raised-2 c = search needs
 
 returns : tie.Need-returns
-returns c = rw (c .before .before .later .ensures, c .before .later2 .ensures, lt-leb _ _ (c .if1 .taken))
+returns c =
+    let x = c .before .before .before .before .before .args in
+    let rose : minuteAt (x .site) (x .entry) < x .minute = c .if1 .taken in
+    rw (c .before .before .later .ensures, c .before .later2 .ensures, lt-leb _ _ rose)
 
 returns-2 : tie.Need-returns-2
-returns-2 c = rw (c .before .before .later .ensures, c .before .later2 .ensures, le-leb _ _ (c .if1 .left))
+returns-2 c =
+    let x = c .before .before .before .before .before .args in
+    let held : x .minute ≤ minuteAt (x .site) (x .entry) = c .if1 .left in
+    rw (c .before .before .later .ensures, c .before .later2 .ensures, le-leb _ _ held)
 
 pub raise-at-spec : {M : Type 1} → statement M
 raise-at-spec =

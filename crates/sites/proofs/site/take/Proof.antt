@@ -7,7 +7,8 @@ use borrow.Author.Needs.{needs}
 use denote.Ref.{now}
 use lib.ListN.{length}
 use lib.Seq.{sets}
-use Rattle.sites.specs.Notes.{noteLength, noteFrom, noteBytes, formed}
+use Rattle.wac.specs.Answers.{gives}
+use Rattle.sites.specs.Notes.{noteLength, raiseKind, receiptKind, noteFrom, noteBytes, formed}
 use Rattle.sites.specs.Site.{takenAs, entryOf, receiptOf, raisedSite, receiptedSite}
 use Rattle.sites.proofs.SiteLaws.{entry-low, taken-whole, takes-as}
 use Rattle.sites.proofs.site.take.Statement.{statement}
@@ -18,10 +19,14 @@ abbrev InOrder : tie.Start → Type 0
 InOrder c = (noteLength ≤ length (now (c .args .receipt))) × (length (now (c .args .bytes)) ≡ noteLength) × (formed (noteFrom (now (c .args .bytes))) ≡ true)
 
 a-raise : (c : tie.After-enum-told2) → InOrder (c .before .before .before .before .before)
-a-raise c = taken-whole _ _ _ _ (sym (c .before .before .answer-for .ensures) ∙ ap takenAs (c .enum-told2 .given .1))
+a-raise c =
+    let given : takenAs (c .before .before .answer-for .result) ≡ gives raiseKind = ap takenAs (c .enum-told2 .given .1) in
+    taken-whole _ _ _ _ (sym (c .before .before .answer-for .ensures) ∙ given)
 
 a-receipt : (c : tie.After-enum-told3) → InOrder (c .before .before .before .before .before)
-a-receipt c = taken-whole _ _ _ _ (sym (c .before .before .answer-for .ensures) ∙ ap takenAs (c .enum-told3 .given .1))
+a-receipt c =
+    let given : takenAs (c .before .before .answer-for .result) ≡ gives receiptKind = ap takenAs (c .enum-told3 .given .1) in
+    taken-whole _ _ _ _ (sym (c .before .before .answer-for .ensures) ∙ given)
 
 answer-for-requires : tie.Need-answer-for-requires
 answer-for-requires c κs = search needs
