@@ -1,13 +1,13 @@
 -- The certificate file: document 01, "The certificate file", with the rows 10 to 15 and 24 of "What comes back".
 use mathlib.Core.Path.{_≡_}
 use mathlib.Core.Bool.{Bool, true, cond, _&&_, not}
-use mathlib.Core.List.{List, [], _∷_, _++_, map}
+use mathlib.Core.List.{List, [], _∷_, _++_}
 use Prim.Native.Nat.{ℕ, zero, suc, _+_, _*_, _<_, _≤_}
-use lib.Dec.{leb, ltb, eqb}
-use lib.ListN.{length, getD, take, drop}
+use lib.Dec.{ltb, eqb}
+use lib.ListN.{length, getD, drop}
 use Rattle.wac.specs.Bytes.{half}
 use Rattle.wac.specs.Limits.{certificates, headerBytes, recordBytes, version}
-use Rattle.wac.specs.Answers.{Answer, gives, Case, _if_, _of_if_, firstOf, refused}
+use Rattle.wac.specs.Answers.{Answer, gives, Case, _if_, _of_if_, refused}
 use Rattle.wac.specs.Ranges.{recordOk}
 use Rattle.wac.specs.Record.{certFrom, bytesOf, Lawful}
 use Rattle.wac.specs.declared.cert.Cert.{Cert}

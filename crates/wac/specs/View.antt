@@ -1,4 +1,5 @@
--- Certificates read by a view of the file and a number: document 01, "The certificate file", with the rows 10 to 15 and 24 of "What comes back"; and one record read alone, below the view.
+-- Certificates read by a view of the file and a number: document 01, "The certificate file", with the rows 10 to 15 and
+-- 24 of "What comes back"; and, below the view, one record read alone.
 use mathlib.Core.Path.{_≡_}
 use mathlib.Core.Bool.{not}
 use mathlib.Core.List.{List, [], _∷_, _++_}
@@ -21,7 +22,8 @@ use Rattle.wac.specs.declared.view.Fetched.the-variants as fetches
 unfoldable pub fetchCases : List ℕ → ℕ → List Case
 fetchCases s n = fileCases s ++ (24 if leb (countOf s) n) ∷ []
 
--- the refusals of record n alone by its number, in a file that has this count: there is no such record, or this one is against the table
+-- the refusals of record n alone by its number, in a file that has this count: there is no such record, or this one is
+-- against the table
 unfoldable pub numberCases : List ℕ → ℕ → ℕ → List Case
 numberCases s count n =
     (24 if leb count n)
@@ -62,7 +64,8 @@ abbrev pub after : Answer ℕ → Answer Cert → Answer Cert
 after (gives k) next = next
 after (refuses n vs) next = refuses n vs
 
--- r is what a view fetches that holds s and keeps this answer of a check, be it that of s or not: what is kept, where it refuses; else what record n alone gives
+-- r is what a view fetches that holds s and keeps this answer of a check, be it that of s or not: the refusal kept, or
+-- what record n alone gives
 pub record FetchedBy (kept : Checked) (s : List ℕ) (n : ℕ) (r : Fetched) : Type 0 where
   pub answer : fetched r ≡ after (checked kept) (firstOf (aloneCases s n) (certAt s n))
   pub ranges : InRanges (fetched r)

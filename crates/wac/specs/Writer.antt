@@ -56,4 +56,5 @@ usedAfter used (Refused why) = used
 -- appending certificates in turn, each to what the call before it left: from b with so many bytes used to b′ with used′
 abbrev pub InTurn : List Cert → List ℕ → ℕ → List ℕ → ℕ → Type 0
 InTurn [] b used b′ used′ = (b′ ≡ b) × (used′ ≡ used)
-InTurn (c ∷ cs) b used b′ used′ = (r : Appended) × (b₁ : List ℕ) × AppendedTo b used c r b₁ × InTurn cs b₁ (usedAfter used r) b′ used′
+InTurn (c ∷ cs) b used b′ used′ =
+    (r : Appended) × (next : List ℕ) × AppendedTo b used c r next × InTurn cs next (usedAfter used r) b′ used′

@@ -4,17 +4,13 @@ use crate::limits::Table;
 use crate::record;
 use crate::refusal::Refusal;
 ghost use mathlib.Core.Path.{_≡_};
-ghost use mathlib.Core.Bool.{not};
-ghost use Prim.Native.Nat.{ℕ, _+_, _*_, _<_, _≤_};
+ghost use Prim.Native.Nat.{_+_, _*_, _≤_};
 ghost use lib.ListN.{length};
 ghost use Rattle.wac.specs.Limits.{headerBytes, recordBytes, certificates};
-ghost use Rattle.wac.specs.Ranges.{recordOk};
 ghost use Rattle.wac.specs.Answers.{firstOf};
 ghost use Rattle.wac.specs.File.{
   isWac,
   countOf,
-  recordAt,
-  lowest,
   lowestBad,
   frameCases,
   fileCases,

@@ -1,7 +1,9 @@
 -- `check` meets its contract: the frame first, then the lowest record against the table.
 use mathlib.Core.Path.{sym, ap, _∙_}
+use mathlib.Core.List.{[], _∷_}
 use native.Mathlib.Omega.{arith}
 use borrow.Author.Needs.{needs}
+use Rattle.wac.specs.Answers.{refuses}
 use Rattle.wac.specs.File.{framed}
 use Rattle.wac.proofs.FileLaws.{frame-accepted, file-refused, file-against, file-accepted}
 use Rattle.wac.proofs.file.check.Statement.{statement}
@@ -25,7 +27,7 @@ returns : tie.Need-returns
 returns c =
     let ok = sym (c .before .before .before .before .before .frame-of .ensures) ∙ ap framed (c .before .before .before .found .given .1) in
     let bad = c .before .lowest-bad .ensures in
-    rw bad (sym (file-against _ ok (rw bad at (c .if1 .taken))))
+    ap (λ n. refuses 15 (n ∷ [])) bad ∙ sym (file-against _ ok (rw bad at (c .if1 .taken)))
 
 returns-2 : tie.Need-returns-2
 returns-2 c =
