@@ -56,74 +56,28 @@ refused-told Rights = record { coded = refl; back = refl }
 refused-told Minute = record { coded = refl; back = refl }
 refused-told Places = record { coded = refl; back = refl }
 
--- the parts of a verdict's code, each with room enough
-pub record Parts (r : Verdict) : Type 0 where
-  pub number : ℕ
-  pub steps : ℕ
-  pub passes : ℕ
-  pub minute : ℕ
-  pub steps-low : steps < 256
-  pub passes-low : passes < 65536
-  pub minute-low : minute ≤ withoutEnd
-  pub coded : verdictCode r ≡ wideCode number steps passes minute
-  pub back : built number steps passes minute ≡ replyOf r
+-- the parts of a verdict's code, each with room enough: number, steps, passes, minute
+data Parts (r : Verdict) : Type 0 where
+  laid : (a n p m : ℕ) → n < 256 → p < 65536 → m ≤ withoutEnd → verdictCode r ≡ wideCode a n p m → built a n p m ≡ replyOf r → Parts r
 
 parts : (r : Verdict) → Bounded r → Parts r
 unfolding built
-parts (verdicts.Granted m n p) (low, short, few) = record {
-  number = 0;
-  steps = n;
-  passes = p;
-  minute = m;
-  steps-low = omega arith;
-  passes-low = omega arith;
-  minute-low = low;
-  coded = refl;
-  back = refl;
-}
-parts (verdicts.NoChain p) few = record {
-  number = 1;
-  steps = 0;
-  passes = p;
-  minute = 0;
-  steps-low = omega arith;
-  passes-low = omega arith;
-  minute-low = omega arith;
-  coded = refl;
-  back = refl;
-}
-parts (verdicts.GrantedLong m p) (low, few) = record {
-  number = 2;
-  steps = 0;
-  passes = p;
-  minute = m;
-  steps-low = omega arith;
-  passes-low = omega arith;
-  minute-low = low;
-  coded = refl;
-  back = refl;
-}
-parts (verdicts.Refused why) low = record {
-  number = refusalNumber why;
-  steps = 0;
-  passes = 0;
-  minute = refusalRecord why;
-  steps-low = omega arith;
-  passes-low = omega arith;
-  minute-low = omega arith;
-  coded = refused-told why .coded;
-  back = refused-told why .back;
-}
+parts (verdicts.Granted minute steps passes) (low, short, few) = laid 0 steps passes minute (omega arith) (omega arith) low refl refl
+parts (verdicts.NoChain passes) few = laid 1 0 passes 0 (omega arith) (omega arith) (omega arith) refl refl
+parts (verdicts.GrantedLong minute passes) (low, few) = laid 2 0 passes minute (omega arith) (omega arith) low refl refl
+parts (verdicts.Refused why) low =
+    laid (refusalNumber why) 0 0 (refusalRecord why) (omega arith) (omega arith) (omega arith) (refused-told why .coded) (refused-told why .back)
 
 -- verdicts within their bounds with one code have one reply
 pub verdict-apart : (r r′ : Verdict) → Bounded r → Bounded r′ → verdictCode r ≡ verdictCode r′ → replyOf r ≡ replyOf r′
-verdict-apart r r′ low low′ e =
-    let x = parts r low in
-    let y = parts r′ low′ in
-    let same = wide-apart (x .steps-low) (y .steps-low) (x .passes-low) (y .passes-low) (x .minute-low) (y .minute-low) (sym (x .coded) ∙ e ∙ y .coded) in
-    sym (x .back)
-    ∙ ap (λ a. built a (x .steps) (x .passes) (x .minute)) (same .0)
-    ∙ ap (λ n. built (y .number) n (x .passes) (x .minute)) (same .1)
-    ∙ ap (λ p. built (y .number) (y .steps) p (x .minute)) (same .2)
-    ∙ ap (built (y .number) (y .steps) (y .passes)) (same .3)
-    ∙ y .back
+verdict-apart r r′ low low′ e = turn (parts r low) (parts r′ low′)
+  where
+    turn : Parts r → Parts r′ → replyOf r ≡ replyOf r′
+    turn (laid a n p m ln lp lm coded back) (laid a′ n′ p′ m′ ln′ lp′ lm′ coded′ back′) =
+        let same = wide-apart ln ln′ lp lp′ lm lm′ (sym coded ∙ e ∙ coded′) in
+        sym back
+        ∙ ap (λ a. built a n p m) (same .0)
+        ∙ ap (λ n. built a′ n p m) (same .1)
+        ∙ ap (λ p. built a′ n′ p m) (same .2)
+        ∙ ap (built a′ n′ p′) (same .3)
+        ∙ back′

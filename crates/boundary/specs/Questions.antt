@@ -20,7 +20,8 @@ abbrev pub wideCode : ℕ → ℕ → ℕ → ℕ → ℕ
 wideCode number steps passes minute =
     number * 72057594037927936 + (steps % 256) * 281474976710656 + (passes % 65536) * 4294967296 + minute % 4294967296
 
--- a reply as one number: of 0 minute, steps, passes; of 1 passes; of 2 minute, passes; a refusal's record stands in the minute's place
+-- a reply as one number: of 0 minute, steps, passes; of 1 passes; of 2 minute, passes; a refusal's record stands in the
+-- minute's place
 abbrev pub replyCode : Reply → ℕ
 replyCode x =
     let first = getD (x .values) 0 0 in

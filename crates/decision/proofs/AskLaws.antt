@@ -115,7 +115,7 @@ module _ (l l₂ : List ℕ) (whole : entries ≤ length l) (long : length l₂ 
 
 module _ (s : List ℕ) (q : Request) (m m₂ t t₂ : List ℕ) (m-whole : entries ≤ length m) (t-whole : entries ≤ length t) (m-long : length m₂ ≡ entries) (t-long : length t₂ ≡ entries) where
   minutes-back : {N : ℕ} → MinutesHeld s q N (take entries m) m₂ → MinutesHeld s q N m (m₂ ++ drop entries m)
-  minutes-back h = record { count = h .count; row = back-first m m₂ m-whole m-long ∙ h .row; beyond = back-beyond m m₂ m-whole m-long }
+  minutes-back h = record { count = h .count; row = back-first m m₂ m-whole m-long ∙ h .row; beyond = cc (back-beyond m m₂ m-whole m-long) }
 
   steps-back : {W : ℕ} → StepsHeld s q W (take entries t) t₂ → StepsHeld s q W t (t₂ ++ drop entries t)
   steps-back h = record {

@@ -175,7 +175,7 @@ module _ {s : List ℕ} {q : Request} (bytes : AreBytes s) {count : ℕ} (ready 
     at-last = settled-done Minutes s q bytes (ready .accepted) (ready .asker) l₁ l₂ N (same ∙ long) row settled
 
     minutes-held : MinutesHeld s q N l l₂
-    minutes-held = record { count = at-last .count; row = at-last .row; beyond = past l₂ (settled .long ∙ same ∙ long) ∙ sym (past l long) }
+    minutes-held = record { count = at-last .count; row = at-last .row; beyond = cc (past l₂ (settled .long ∙ same ∙ long), past l long) }
 
     -- the owner's mark 10 decides
     owner-decides : {m : ℕ} → m ≡ held Minutes l₂ (q .owner) delegate keys → Decides (asked q) (rulesOf s q) (q .owner) m

@@ -117,14 +117,16 @@ pub record StepsHeld (s : List ℕ) (q : Request) (W : ℕ) (steps steps′ : Li
   pub long : length steps′ ≡ length steps
   pub beyond : drop entries steps′ ≡ drop entries steps
 
--- ch is a shortest best chain: W is the latest minute of a chain, ch has it and n certificates, and no chain that has it has fewer
+-- ch is a shortest best chain: W is the latest minute of a chain, ch has it and n certificates, and no chain that has it
+-- has fewer
 pub record ShortestBest (s : List ℕ) (q : Request) (W n : ℕ) (ch : List ℕ) : Type 0 where
   pub best : Best (asked q) (rulesOf s q) (q .owner) W
   pub weighs : Weighs (asked q) (rulesOf s q) (q .owner) W ch
   pub long : length ch ≡ n
   pub fewest : Fewest (Weighs (asked q) (rulesOf s q) (q .owner) W) n
 
--- granted until W by a question of N passes: 0 and a shortest best chain is written, other places stay; or 2 and every place stays
+-- granted until W by a question of N passes: 0 and a shortest best chain is written, other places stay; or 2 and every
+-- place stays
 pub data Counted (s : List ℕ) (q : Request) (W N : ℕ) (r : Verdict) (steps steps′ chain chain′ : List ℕ) : Type 0 where
   counted : (n : ℕ) (ch : List ℕ) → n ≤ chainPlaces → ShortestBest s q W n ch → chain′ ≡ sets chain 0 ch →
       StepsHeld s q W steps steps′ → replyOf r ≡ reply 0 (W ∷ n ∷ N ∷ []) → Counted s q W N r steps steps′ chain chain′
@@ -155,11 +157,13 @@ askCases s q minutes steps chain =
 
 -- the question: refused by the first case that holds, and then every lent place is as it was; or answered
 pub data Judged (s : List ℕ) (q : Request) (r : Verdict) (minutes minutes′ steps steps′ chain chain′ : List ℕ) : Type 0 where
-  refused : (n : ℕ) (vs : List ℕ) → firstOf (askCases s q (length minutes) (length steps) (length chain)) (countOf s) ≡ refuses n vs →
+  refused : (n : ℕ) (vs : List ℕ) →
+      firstOf (askCases s q (length minutes) (length steps) (length chain)) (countOf s) ≡ refuses n vs →
       replyOf r ≡ reply n vs → minutes′ ≡ minutes → steps′ ≡ steps → chain′ ≡ chain →
       Judged s q r minutes minutes′ steps steps′ chain chain′
   answered : firstOf (askCases s q (length minutes) (length steps) (length chain)) (countOf s) ≡ gives (countOf s) →
-      Answered s q r minutes minutes′ steps steps′ chain chain′ → Judged s q r minutes minutes′ steps steps′ chain chain′
+      Answered s q r minutes minutes′ steps steps′ chain chain′ →
+      Judged s q r minutes minutes′ steps steps′ chain chain′
 
 -- the record's number that a refusal returns, 0 where it returns none
 abbrev pub refusalRecord : Refused → ℕ
@@ -173,7 +177,8 @@ shownAs (shows.Refused number) = refuses number []
 
 -- the read screen: refused as the question is, and then only the number; yes if there is a chain, no if there is none
 pub data Shows (s : List ℕ) (q : Request) (a : Answer Bool) : Type 0 where
-  refused : (n : ℕ) (vs : List ℕ) → firstOf (fileCases s ++ requestCases q) (countOf s) ≡ refuses n vs → a ≡ refuses n [] → Shows s q a
+  refused : (n : ℕ) (vs : List ℕ) → firstOf (fileCases s ++ requestCases q) (countOf s) ≡ refuses n vs →
+      a ≡ refuses n [] → Shows s q a
   yes : firstOf (fileCases s ++ requestCases q) (countOf s) ≡ gives (countOf s) →
       (ch : List ℕ) → Chain (rulesOf s q) (q .owner) (q .asker) ch → a ≡ gives true → Shows s q a
   no : firstOf (fileCases s ++ requestCases q) (countOf s) ≡ gives (countOf s) →
@@ -184,9 +189,11 @@ abbrev pub stockedAs : Stocked → List Bool → Answer (List Bool)
 stockedAs stocks.Given shown = gives shown
 stockedAs (stocks.Refused number) shown = refuses number []
 
--- the stock list: refused as the question is, and then only the number, and all no; or for each key what the read screen shows
+-- the stock list: refused as the question is, and then only the number, and all no; or for each key what the read
+-- screen shows
 pub data Stocks (s : List ℕ) (owner at : ℕ) (r : StockList) : Type 0 where
-  refused : (n : ℕ) (vs : List ℕ) → firstOf (fileCases s ++ requestCases (requestOf owner 0 2 at)) (countOf s) ≡ refuses n vs →
+  refused : (n : ℕ) (vs : List ℕ) →
+      firstOf (fileCases s ++ requestCases (requestOf owner 0 2 at)) (countOf s) ≡ refuses n vs →
       stockedAs (r .answer) (r .keys) ≡ refuses n [] → r .keys ≡ replicate keys false → Stocks s owner at r
   given : (shown : List Bool) → ((k : ℕ) → k < keys → Shows s (requestOf owner k 2 at) (gives (getD shown k false))) →
       length shown ≡ keys → stockedAs (r .answer) (r .keys) ≡ gives shown → Stocks s owner at r
@@ -200,10 +207,10 @@ abbrev pub settlingAs : Settling → Answer ℕ
 settlingAs (settlings.Passes passes) = gives passes
 settlingAs (settlings.Refused why) = refusedAs why
 
--- settling a given table: refused by the first case that holds, and then nothing changes; or the table after the passes of the
--- definition, up to and including the first that changes nothing
+-- settling a given table: refused by the first case that holds, and then nothing changes; or the table after the passes
+-- of the definition, up to and including the first that changes nothing
 pub data Settles (s : List ℕ) (q : Request) (r : Settling) (table table′ : List ℕ) : Type 0 where
   refused : (n : ℕ) (vs : List ℕ) → firstOf (settleCases s q (length table)) (countOf s) ≡ refuses n vs →
       settlingAs r ≡ refuses n vs → table′ ≡ table → Settles s q r table table′
-  settled : firstOf (settleCases s q (length table)) (countOf s) ≡ gives (countOf s) → (N : ℕ) → SettledFrom Minutes s q table N table′ →
-      settlingAs r ≡ gives N → Settles s q r table table′
+  settled : firstOf (settleCases s q (length table)) (countOf s) ≡ gives (countOf s) →
+      (N : ℕ) → SettledFrom Minutes s q table N table′ → settlingAs r ≡ gives N → Settles s q r table table′

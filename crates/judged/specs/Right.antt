@@ -37,7 +37,8 @@ pub record Case : Type 0 where
 abbrev pub requestIn : Case → Request
 requestIn c = requestOf 0 (c .asker) (c .rights) (c .at)
 
--- the file s answers the request q so: the passes are as many, and the chain given is a shortest best chain with that minute and those steps
+-- the file s answers the request q so: the passes are as many, and the chain given is a shortest best chain with that
+-- minute and those steps
 pub record Granted (s : List ℕ) (q : Request) (minute steps passes : ℕ) (chain : List ℕ) : Type 0 where
   pub count : PassCount (asked q) (rulesOf s q) passes
   pub short : steps ≤ chainPlaces
@@ -60,16 +61,19 @@ pub record Right (c : Case) : Type 0 where
   pub admitted : firstOf (fileCases (c .file) ++ requestCases (requestIn c)) (countOf (c .file)) ≡ gives (length (c .certificates))
   pub says : Says (c .file) (requestIn c) (c .line)
 
--- the chain that is written is as a line says: like the line's own, a shortest best chain with the line's minute and steps
+-- the chain that is written is as a line says: like the line's own, a shortest best chain with the line's minute and
+-- steps
 abbrev pub Written : List ℕ → Request → Line → List ℕ → Type 0
 Written s q (GRANTED minute steps passes chain) written = ShortestBest s q minute steps (take steps written)
 Written s q (NO-CHAIN passes) written = Unit {0}
 
--- a case's line is what comes back: every verdict on its file and request that meets the question's statement, with places enough lent,
--- has the line's number and values, and the chain written is as the line says
+-- a case's line is what comes back: every verdict on its file and request that meets the question's statement, with
+-- places enough lent, has the line's number and values, and the chain written is as the line says
 pub record ComesBack (c : Case) : Type 0 where
-  pub every : {r : Verdict} {m m′ t t′ ch ch′ : List ℕ} → entries ≤ length m → entries ≤ length t → chainPlaces ≤ length ch →
-      Judged (c .file) (requestIn c) r m m′ t t′ ch ch′ → (replyOf r ≡ replyIn (c .line)) × Written (c .file) (requestIn c) (c .line) ch′
+  pub every : {r : Verdict} {m m′ t t′ ch ch′ : List ℕ} →
+      entries ≤ length m → entries ≤ length t → chainPlaces ≤ length ch →
+      Judged (c .file) (requestIn c) r m m′ t t′ ch ch′ →
+      (replyOf r ≡ replyIn (c .line)) × Written (c .file) (requestIn c) (c .line) ch′
 
 -- something holds of every case of a list
 abbrev pub All : (Case → Type 0) → List Case → Type 0

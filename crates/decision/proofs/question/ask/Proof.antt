@@ -1,5 +1,6 @@
 -- `ask` meets its contract: refused before any place is written; else judged in the first places lent.
 use mathlib.Core.Path.{refl, sym, ap, _∙_}
+use native.Mathlib.Omega.{arith}
 use borrow.Author.Needs.{needs}
 use denote.Ref.{now}
 use lib.ListN.{length}
@@ -35,7 +36,7 @@ returns-3 : tie.Need-returns-3
 returns-3 c =
     let args = c .before .before .before .before .before .before .before .before .before .before .before .args in
     let given = sym (c .before .before .before .before .before .before .admit .ensures) ∙ ap admittedAs (c .before .before .before .before .admitted2 .given .1) in
-    refused _ _ (few-chain (now (args .file)) _ (length (now (args .minutes))) (length (now (args .steps))) (length (now (args .chain))) given (c .before .before .if1 .left) (c .before .if2 .left) (c .if3 .taken)) refl refl refl refl
+    refused _ _ (few-chain (now (args .file)) _ (length (now (args .minutes))) (length (now (args .steps))) (length (now (args .chain))) given (c .before .before .if1 .left) (c .before .if2 .left) (omega (arith, c .if3 .taken))) refl refl refl refl
 
 slice-relend-prefix-judge : tie.Need-slice-relend-prefix-judge
 slice-relend-prefix-judge c = search needs
