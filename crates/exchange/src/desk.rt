@@ -1,13 +1,28 @@
 // Two sites, and what one of them does next. The acts are those of the site named first; for the other
 // the two change places.
 use crate::mail;
+use lines::Outcome;
 use sites::Note;
 use sites::Sending;
 use sites::Site;
 use sites::Taken;
 use wac::Table;
+ghost use mathlib.Core.Path.{_≡_};
 ghost use Prim.Native.Nat.{_<_};
 ghost use Rattle.wac.specs.Limits.{entries};
+ghost use Rattle.lines.specs.declared.act.Outcome.the-variants.{Quiet};
+ghost use Rattle.exchange.specs.Acts.{
+  Worked,
+  Wrote,
+  Delivers,
+  Brought,
+  Exchanged,
+  SentNext,
+  HalfDone,
+  FullDone,
+  swappedDesk,
+  isRaise,
+};
 
 // The two sites, and how many notes of each are kept.
 pub struct Desk {
@@ -17,19 +32,6 @@ pub struct Desk {
     pub second_count: usize,
 }
 
-// What is told after an act.
-pub enum Outcome {
-    Quiet,
-    // The note of this entry was written.
-    Note(usize),
-    // There was no note.
-    Nothing,
-    // What became of a note that was brought.
-    Brought(Taken),
-    // The act's bytes are cut off, or there is no such act.
-    End,
-}
-
 // The two sites after an act, and what is told of it.
 pub struct Done {
     pub desk: Desk,
@@ -37,7 +39,9 @@ pub struct Done {
 }
 
 // The two sites in each other's places.
-pub fn swapped(desk: Desk) -> Desk {
+pub fn swapped(desk: Desk) -> Desk
+    ensures { λ r. ⌜ r ≡ swappedDesk desk ⌝ }
+{
     let first = desk.first;
     let second = desk.second;
     Desk {
@@ -49,7 +53,9 @@ pub fn swapped(desk: Desk) -> Desk {
 }
 
 // The first site works.
-pub fn works(desk: Desk) -> Done {
+pub fn works(desk: Desk) -> Done
+    ensures { λ r. ⌜ Worked desk r ⌝ }
+{
     let mut after = desk;
     let first = desk.first;
     let worked = sites::work(first);
@@ -61,7 +67,9 @@ pub fn works(desk: Desk) -> Done {
 }
 
 // The first site writes its next note from an entry on.
-pub fn writes(desk: Desk, from: usize, notes: &mut [u8]) -> Done {
+pub fn writes(desk: Desk, from: usize, notes: &mut [u8]) -> Done
+    ensures { λ r. ⌜ Wrote desk from r ⌝ }
+{
     let mut after = desk;
     let first = desk.first;
     let mut note = [0u8; Note::BYTES];
@@ -93,7 +101,9 @@ pub struct Delivery {
 }
 
 // Brings a note to a site.
-fn deliver(site: Site, note: [u8; Note::BYTES]) -> Delivery {
+fn deliver(site: Site, note: [u8; Note::BYTES]) -> Delivery
+    ensures { λ r. ⌜ Delivers site note r ⌝ }
+{
     let mut receipt = [0u8; Note::BYTES];
     let taking = sites::take(site, &note, &mut receipt);
     let answer = taking.answer;
@@ -106,7 +116,9 @@ fn deliver(site: Site, note: [u8; Note::BYTES]) -> Delivery {
 }
 
 // Is there a receipt?
-fn is_raise(answer: Taken) -> bool {
+fn is_raise(answer: Taken) -> bool
+    ensures { λ r. ⌜ r ≡ isRaise answer ⌝ }
+{
     match answer {
         Taken::Raise => true,
         Taken::Receipt => false,
@@ -115,7 +127,9 @@ fn is_raise(answer: Taken) -> bool {
 }
 
 // A note is brought to the first site, and the receipt that it writes is kept.
-pub fn brings(desk: Desk, note: [u8; Note::BYTES], notes: &mut [u8]) -> Done {
+pub fn brings(desk: Desk, note: [u8; Note::BYTES], notes: &mut [u8]) -> Done
+    ensures { λ r. ⌜ Brought desk note r ⌝ }
+{
     let mut after = desk;
     let first = desk.first;
     let delivery = deliver(first, note);
@@ -152,12 +166,9 @@ pub fn passes_on(desk: Desk, number: usize, first: &[u8], second: &mut [u8]) -> 
 }
 
 // The note of an entry of the first site goes to the second, and its receipt comes back.
-fn exchanges_note(
-    desk: Desk,
-    note: [u8; Note::BYTES],
-    first: &mut [u8],
-    second: &mut [u8],
-) -> Desk {
+fn exchanges_note(desk: Desk, note: [u8; Note::BYTES], first: &mut [u8], second: &mut [u8]) -> Desk
+    ensures { λ r. ⌜ Exchanged desk note r ⌝ }
+{
     let mut after = desk;
     let sender = desk.first;
     let taker = desk.second;
@@ -185,7 +196,7 @@ pub struct Sent {
 // The first site's next note from an entry on goes to the second, and its receipt comes back.
 fn sends_next(desk: Desk, from: usize, first: &mut [u8], second: &mut [u8]) -> Sent
     requires { ⌜ from < entries ⌝ }
-    ensures { λ r. ⌜ from < r .next ⌝ }
+    ensures { λ r. ⌜ SentNext desk from r × (from < r .next) ⌝ }
 {
     let sender = desk.first;
     let mut note = [0u8; Note::BYTES];
@@ -210,7 +221,9 @@ fn sends_next(desk: Desk, from: usize, first: &mut [u8], second: &mut [u8]) -> S
 }
 
 // One half of a full exchange: the first site works and sends all its notes, and the receipts are taken.
-pub fn half(desk: Desk, first: &mut [u8], second: &mut [u8]) -> Desk {
+pub fn half(desk: Desk, first: &mut [u8], second: &mut [u8]) -> Desk
+    ensures { λ r. ⌜ HalfDone desk r ⌝ }
+{
     let done = works(desk);
     let mut after = done.desk;
     let mut from = 0;
@@ -224,7 +237,9 @@ pub fn half(desk: Desk, first: &mut [u8], second: &mut [u8]) -> Desk {
 }
 
 // A full exchange that the first site begins.
-pub fn exchanges(desk: Desk, first: &mut [u8], second: &mut [u8]) -> Done {
+pub fn exchanges(desk: Desk, first: &mut [u8], second: &mut [u8]) -> Done
+    ensures { λ r. ⌜ FullDone desk (r .desk) × (r .outcome ≡ Quiet) ⌝ }
+{
     let there = half(desk, first, second);
     let back = half(swapped(there), second, first);
     Done {

@@ -13,12 +13,14 @@
 // After each act one line says what both sites show, and what became of the act.
 mod desk;
 mod mail;
-mod told;
 
 use desk::Desk;
 use desk::Done;
-use desk::Outcome;
+use lines::Line;
+use lines::Outcome;
+use lines::Unopened;
 use sites::Note;
+use sites::Opened;
 use sites::Site;
 ghost use Prim.Native.Nat.{_≤_, _<_};
 ghost use lib.ListN.{length};
@@ -43,7 +45,7 @@ fn read_number() -> Number
     ensures { λ r. ⌜ r .value < 65536 ⌝ }
 {
     let mut bytes = [0u8; 2];
-    if io::read_full(libc::STDIN_FILENO, &mut bytes) < 2 {
+    if lines::read_input(&mut bytes).count < 2 {
         return Number {
             whole: false,
             value: 0,
@@ -67,49 +69,67 @@ fn read_file(file: &mut [u8]) -> Number
     if file.len() < value {
         return length;
     }
-    let got = io::read_full(libc::STDIN_FILENO, &mut file[..value]);
+    let input = lines::read_input(&mut file[..value]);
     Number {
-        whole: got == value,
+        whole: input.count == value,
         value: value,
     }
 }
 
+// What comes of an act, or that it does not stand there whole.
+struct Turn {
+    done: Done,
+    ended: bool,
+}
+
 // Nothing comes of an act.
-fn ended(desk: Desk) -> Done {
-    Done {
+fn ended(desk: Desk) -> Turn {
+    let done = Done {
         desk: desk,
-        outcome: Outcome::End,
+        outcome: Outcome::Quiet,
+    };
+    Turn {
+        done: done,
+        ended: true,
+    }
+}
+
+// This comes of an act.
+fn acted(done: Done) -> Turn {
+    Turn {
+        done: done,
+        ended: false,
     }
 }
 
 // An act of the first site with a number after it.
-fn numbered(desk: Desk, kind: u8, first: &mut [u8], second: &mut [u8]) -> Done {
+fn numbered(desk: Desk, kind: u8, first: &mut [u8], second: &mut [u8]) -> Turn {
     let number = read_number();
     if !number.whole {
         return ended(desk);
     }
     if kind == 1 {
-        return desk::writes(desk, number.value, first);
+        return acted(desk::writes(desk, number.value, first));
     }
-    desk::passes_on(desk, number.value, first, second)
+    acted(desk::passes_on(desk, number.value, first, second))
 }
 
 // A note from standard input is brought to the first site.
-fn brought(desk: Desk, first: &mut [u8]) -> Done {
+fn brought(desk: Desk, first: &mut [u8]) -> Turn {
     let mut note = [0u8; Note::BYTES];
-    if io::read_full(libc::STDIN_FILENO, &mut note) < Note::BYTES {
+    if lines::read_input(&mut note).count < Note::BYTES {
         return ended(desk);
     }
-    desk::brings(desk, note, first)
+    acted(desk::brings(desk, note, first))
 }
 
 // An act of the first site: works, writes, has a note brought to the other, exchanges, is brought a note.
-fn act_first(desk: Desk, kind: u8, first: &mut [u8], second: &mut [u8]) -> Done {
+fn act_first(desk: Desk, kind: u8, first: &mut [u8], second: &mut [u8]) -> Turn {
     if kind == 0 {
-        return desk::works(desk);
+        return acted(desk::works(desk));
     }
     if kind == 3 {
-        return desk::exchanges(desk, first, second);
+        return acted(desk::exchanges(desk, first, second));
     }
     if kind == 4 {
         return brought(desk, first);
@@ -121,17 +141,40 @@ fn act_first(desk: Desk, kind: u8, first: &mut [u8], second: &mut [u8]) -> Done 
 }
 
 // An act: the even ones are A's, the odd ones B's.
-fn act_on(desk: Desk, act: u8, a: &mut [u8], b: &mut [u8]) -> Done {
+fn act_on(desk: Desk, act: u8, a: &mut [u8], b: &mut [u8]) -> Turn {
     if act % 2 == 0 {
         return act_first(desk, act / 2, a, b);
     }
-    let done = act_first(desk::swapped(desk), act / 2, b, a);
+    let turn = act_first(desk::swapped(desk), act / 2, b, a);
+    let done = turn.done;
     let after = done.desk;
     let outcome = done.outcome;
-    Done {
+    let back = Done {
         desk: desk::swapped(after),
         outcome: outcome,
+    };
+    Turn {
+        done: back,
+        ended: turn.ended,
     }
+}
+
+// Prints the line after an act, and says whether it could.
+fn tells(done: Done) -> bool {
+    let desk = done.desk;
+    let outcome = done.outcome;
+    let a = desk.first;
+    let b = desk.second;
+    let mut line = [0u8; Line::ROOM];
+    let lined = lines::act_line(a, b, outcome, &mut line);
+    lines::print(lined, &line).whole
+}
+
+// Prints the line of two sites that were not opened.
+fn declines(why: Unopened) {
+    let mut line = [0u8; Line::ROOM];
+    let lined = lines::opening_line(why, &mut line);
+    lines::print(lined, &line);
 }
 
 // The acts, until the input ends or an act does not stand there whole. A proved loop has to end, and
@@ -149,16 +192,15 @@ fn run(a: Site, b: Site) {
     while turns > 0 {
         turns -= 1;
         let mut act = [0u8; 1];
-        if io::read_full(libc::STDIN_FILENO, &mut act) < 1 {
+        if lines::read_input(&mut act).count < 1 {
             return;
         }
-        let done = act_on(desk, act[0], &mut a_notes, &mut b_notes);
-        let outcome = done.outcome;
+        let turn = act_on(desk, act[0], &mut a_notes, &mut b_notes);
+        let done = turn.done;
         let after = done.desk;
-        if told::is_end(outcome) {
+        if turn.ended || !tells(done) {
             return;
         }
-        told::print_line(after, outcome);
         desk = after;
     }
 }
@@ -175,11 +217,11 @@ fn open_both(head: &[u8], a_file: &[u8], b_file: &[u8])
     let b_answer = b.answer;
     let a_site = a.site;
     let b_site = b.site;
-    if told::print_refusal(b"A", a_answer) {
-        return;
+    if let Opened::Refused(why) = a_answer {
+        return declines(Unopened::First(why));
     }
-    if told::print_refusal(b"B", b_answer) {
-        return;
+    if let Opened::Refused(why) = b_answer {
+        return declines(Unopened::Second(why));
     }
     run(a_site, b_site);
 }
@@ -188,12 +230,11 @@ fn main() {
     let mut head = [0u8; HEAD];
     let mut a_file = io::large_buffer();
     let mut b_file = io::large_buffer();
-    let got = io::read_full(libc::STDIN_FILENO, &mut head);
+    let got = lines::read_input(&mut head).count;
     let a = read_file(&mut a_file);
     let b = read_file(&mut b_file);
     if got < HEAD || !a.whole || !b.whole {
-        told::print_short();
-        return;
+        return declines(Unopened::CutShort);
     }
     let a_length = a.value;
     let b_length = b.value;

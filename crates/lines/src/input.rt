@@ -13,8 +13,9 @@ fn is_at_end() -> bool {
     libc::read(libc::STDIN_FILENO, &mut next) == 0
 }
 
-// Reads until the lent bytes are full, the input ends or a read fails. No contract can say which bytes
-// there are to read; what is said is that as many as counted stand at the front.
+// Reads until the lent bytes are full, the input ends or a read fails; the last is told on standard
+// error. No contract can say which bytes there are to read; what is said is that as many as counted
+// stand at the front.
 pub fn read_input(bytes: &mut [u8]) -> Input
     ensures { λ r. ⌜ Counts (r .count) (now (bytes .exit)) ⌝ }
 {
@@ -26,6 +27,9 @@ pub fn read_input(bytes: &mut [u8]) -> Input
         };
     }
     let ended = is_at_end();
+    if !ended {
+        io::write_all(libc::STDERR_FILENO, b"standard input cannot be read\n");
+    }
     Input {
         count: count,
         failed: !ended,

@@ -14,8 +14,9 @@ pub struct Printed {
     pub whole: bool,
 }
 
-// Writes a line that stands at the front of the lent bytes to standard output. No contract can say what
-// was written; what is said is how many of the bytes were handed over.
+// Writes a line that stands at the front of the lent bytes to standard output; where that fails, it is
+// told on standard error. No contract can say what was written; what is said is how many of the bytes
+// were handed over.
 pub fn print(lined: Lined, line: &[u8]) -> Printed
     ensures { λ r. ⌜ r .length ≡ min (lengthOf lined) (length (now (line .entry))) ⌝ }
 {
@@ -23,6 +24,9 @@ pub fn print(lined: Lined, line: &[u8]) -> Printed
         Lined::Length(end) => {
             let length = least(end, line.len());
             let whole = io::write_all(libc::STDOUT_FILENO, &line[..length]);
+            if !whole {
+                io::write_all(libc::STDERR_FILENO, b"standard output cannot be written\n");
+            }
             Printed {
                 length: length,
                 whole: whole,

@@ -5,11 +5,11 @@ use lib.ListN.{length-take}
 use Rattle.cases.proofs.answer_next.Statement.{statement}
 use Rattle.cases.proofs.answer_next.Tie as tie
 
-slice-aggregate-fills : tie.Need-slice-aggregate-fills
-slice-aggregate-fills c = search needs
+slice-aggregate-read-input : tie.Need-slice-aggregate-read-input
+slice-aggregate-read-input c = search needs
 
-fills-requires : tie.Need-fills-requires
-fills-requires c κs = search needs
+read-input-requires : tie.Need-read-input-requires
+read-input-requires c κs = search needs
 
 returns : tie.Need-returns
 returns c = search needs
@@ -42,8 +42,8 @@ pub answer-next-spec : {M : Type 1} → statement M
 answer-next-spec =
     tie.close
     (tie.spec
-    slice-aggregate-fills
-    fills-requires
+    slice-aggregate-read-input
+    read-input-requires
     returns
     array-read-length-of
     array-read-length-of-2

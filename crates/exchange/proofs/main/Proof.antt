@@ -11,11 +11,11 @@ large-buffer-requires c κs = search needs
 large-buffer-requires-2 : tie.Need-large-buffer-requires-2
 large-buffer-requires-2 c κs = search needs
 
-slice-aggregate-read-full : tie.Need-slice-aggregate-read-full
-slice-aggregate-read-full c = search needs
+slice-aggregate-read-input : tie.Need-slice-aggregate-read-input
+slice-aggregate-read-input c = search needs
 
-read-full-requires : tie.Need-read-full-requires
-read-full-requires c κs = search needs
+read-input-requires : tie.Need-read-input-requires
+read-input-requires c κs = search needs
 
 slice-aggregate-read-file : tie.Need-slice-aggregate-read-file
 slice-aggregate-read-file c = search needs
@@ -29,8 +29,8 @@ slice-aggregate-read-file-2 c = search needs
 read-file-requires-2 : tie.Need-read-file-requires-2
 read-file-requires-2 c κs = search needs
 
-print-short-requires : tie.Need-print-short-requires
-print-short-requires c κs = search needs
+declines-requires : tie.Need-declines-requires
+declines-requires c κs = search needs
 
 returns : tie.Need-returns
 returns c = search needs
@@ -62,13 +62,13 @@ main-spec =
     (tie.spec
     large-buffer-requires
     large-buffer-requires-2
-    slice-aggregate-read-full
-    read-full-requires
+    slice-aggregate-read-input
+    read-input-requires
     slice-aggregate-read-file
     read-file-requires
     slice-aggregate-read-file-2
     read-file-requires-2
-    print-short-requires
+    declines-requires
     returns
     slice-aggregate-open-both
     array-share-prefix-a-file

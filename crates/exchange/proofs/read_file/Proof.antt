@@ -15,14 +15,14 @@ returns c = search needs
 returns-2 : tie.Need-returns-2
 returns-2 c = search needs
 
-slice-relend-prefix-read-full : tie.Need-slice-relend-prefix-read-full
-slice-relend-prefix-read-full c = search needs
+slice-relend-prefix-read-input : tie.Need-slice-relend-prefix-read-input
+slice-relend-prefix-read-input c = search needs
 
-slice-aggregate-read-full : tie.Need-slice-aggregate-read-full
-slice-aggregate-read-full c = omega (arith, length-take (c .before .before .before .before .read-number .result .value) (now (c .before .before .before .before .before .before .args .file)))
+slice-aggregate-read-input : tie.Need-slice-aggregate-read-input
+slice-aggregate-read-input c = omega (arith, length-take (c .before .before .before .before .read-number .result .value) (now (c .before .before .before .before .before .before .args .file)))
 
-read-full-requires : tie.Need-read-full-requires
-read-full-requires c κs = search needs
+read-input-requires : tie.Need-read-input-requires
+read-input-requires c κs = search needs
 
 same-length : tie.Need-same-length
 same-length c = search needs
@@ -37,8 +37,8 @@ read-file-spec =
     read-number-requires
     returns
     returns-2
-    slice-relend-prefix-read-full
-    slice-aggregate-read-full
-    read-full-requires
+    slice-relend-prefix-read-input
+    slice-aggregate-read-input
+    read-input-requires
     same-length
     returns-3)

@@ -18,11 +18,11 @@ loop-holds c = search needs
 sub-turns : tie.Need-sub-turns Inv-loop μ-loop
 sub-turns c = search needs
 
-slice-aggregate-read-full : tie.Need-slice-aggregate-read-full Inv-loop μ-loop
-slice-aggregate-read-full c = search needs
+slice-aggregate-read-input : tie.Need-slice-aggregate-read-input Inv-loop μ-loop
+slice-aggregate-read-input c = search needs
 
-read-full-requires : tie.Need-read-full-requires Inv-loop μ-loop
-read-full-requires c κs = search needs
+read-input-requires : tie.Need-read-input-requires Inv-loop μ-loop
+read-input-requires c κs = search needs
 
 returns : tie.Need-returns Inv-loop μ-loop
 returns c = search needs
@@ -39,22 +39,19 @@ slice-aggregate-act-on-2 c = search needs
 act-on-requires : tie.Need-act-on-requires Inv-loop μ-loop
 act-on-requires c κs = search needs
 
-is-end-requires : tie.Need-is-end-requires Inv-loop μ-loop
-is-end-requires c κs = search needs
+tells-requires : tie.Need-tells-requires Inv-loop μ-loop
+tells-requires c κs = search needs
 
 returns-2 : tie.Need-returns-2 Inv-loop μ-loop
 returns-2 c = search needs
-
-print-line-requires : tie.Need-print-line-requires Inv-loop μ-loop
-print-line-requires c κs = search needs
 
 loop-less : tie.Need-loop-less Inv-loop μ-loop
 loop-less c = search needs
 
 loop-again : tie.Need-loop-again Inv-loop μ-loop
 loop-again c =
-    let i = c .before .before .before .before .before .before .before .before .before .before .before .before .before .before .loop .inv in
-    let kept = c .before .before .before .before .before .before .act-on .kept in
+    let i = c .before .before .before .before .before .before .before .before .before .before .before .before .before .before .before .before .loop .inv in
+    let kept = c .before .before .before .before .before .before .before .act-on .kept in
     (omega (arith, i .0, kept .1 .1 .0), omega (arith, i .1, kept .1 .1 .1 .0))
 
 returns-3 : tie.Need-returns-3 Inv-loop μ-loop
@@ -68,16 +65,15 @@ run-spec =
     μ-loop
     loop-holds
     sub-turns
-    slice-aggregate-read-full
-    read-full-requires
+    slice-aggregate-read-input
+    read-input-requires
     returns
     array-read-act-on
     slice-aggregate-act-on
     slice-aggregate-act-on-2
     act-on-requires
-    is-end-requires
+    tells-requires
     returns-2
-    print-line-requires
     loop-less
     loop-again
     returns-3)

@@ -1,6 +1,8 @@
--- `exchanges` is safe: both halves keep the lists' lengths.
+-- `exchanges` meets its contract: two halves, the second the other way round.
+use mathlib.Core.Path.{refl}
 use native.Mathlib.Omega.{arith}
 use borrow.Author.Needs.{needs}
+use Rattle.exchange.proofs.Halves.{halves-full}
 use Rattle.exchange.proofs.desk.exchanges.Statement.{statement}
 use Rattle.exchange.proofs.desk.exchanges.Tie as tie
 
@@ -23,7 +25,13 @@ same-length-2 : tie.Need-same-length-2
 same-length-2 c = omega (arith, c .before .before .before .before .before .before .before .before .before .before .before .before .before .half .kept .1 .1 .0, c .before .before .before .before .before .half2 .kept .1 .0)
 
 returns : tie.Need-returns
-returns c = search needs
+returns c =
+    let there = c .before .before .before .before .before .before .before .before .before .before .before .before .before .half in
+    let back = c .before .before .before .before .before .half2 in
+    let desk = c .before .before .before .before .before .before .before .before .before .before .before .before .before .before .before .before .before .before .args .desk in (
+      rw (c .swapped2 .ensures) (halves-full desk (there .result) (back .result) (there .ensures) (rw (c .before .before .before .before .before .before .before .before .swapped .ensures) at (back .ensures))),
+      refl,
+    )
 
 pub exchanges-spec : {M : Type 1} → statement M
 exchanges-spec =

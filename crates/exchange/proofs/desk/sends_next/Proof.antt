@@ -1,6 +1,8 @@
--- `sends_next` meets its contract: a note is of an entry at or above the given one.
+-- `sends_next` meets its contract: the next note goes there and its receipt back, or there is none.
+use mathlib.Core.Path.{refl}
 use native.Mathlib.Omega.{arith}
-use Rattle.sites.proofs.Sending.{sent-above}
+use Rattle.exchange.specs.Acts.{SentNext}
+use Rattle.sites.proofs.Sending.{sent-above, never-short}
 use borrow.Author.Needs.{needs}
 use Rattle.exchange.proofs.desk.sends_next.Statement.{statement}
 use Rattle.exchange.proofs.desk.sends_next.Tie as tie
@@ -17,8 +19,8 @@ enum-known-sending c = search needs
 exchanges-note-requires : tie.Need-exchanges-note-requires
 exchanges-note-requires c κs = search needs
 
-add-entry : tie.Need-add-t18
-add-entry c = omega (arith, sent-above (c .before .before .before .before .before .before .before .before .before .before .before .next .ensures) (c .before .before .before .before .before .before .before .before .sending .given .1) .1)
+add-t18 : tie.Need-add-t18
+add-t18 c = let s = sent-above (c .before .before .before .before .before .before .before .before .before .before .before .next .ensures) (c .before .before .before .before .before .before .before .before .sending .given .1) in omega (arith, s .1)
 
 enum-told : tie.Need-enum-told
 enum-told c = search needs
@@ -33,13 +35,18 @@ same-length-2 : tie.Need-same-length-2
 same-length-2 c = search needs
 
 returns : tie.Need-returns
-returns c = omega (arith, sent-above (c .before .before .before .before .before .before .before .before .before .before .before .next .ensures) (c .before .before .before .before .before .before .before .before .sending .given .1) .0)
+returns c =
+    let sends = rw (c .before .before .before .before .before .before .before .before .sending .given .1) at (c .before .before .before .before .before .before .before .before .before .before .before .next .ensures) in (
+      SentNext.note (c .before .before .before .before .before .before .before .before .sending .given .0 .0) _ sends (c .before .before .before .before .exchanges-note .ensures) refl,
+      omega (arith, sent-above sends refl),
+    )
 
 returns-2 : tie.Need-returns-2
-returns-2 c = search needs
+returns-2 c =
+    (SentNext.nothing _ (rw (c .enum-told .given .1) at (c .before .before .before .next .ensures)) refl refl refl, omega arith)
 
 returns-3 : tie.Need-returns-3
-returns-3 c = search needs
+returns-3 c = absurd (never-short (omega arith) (rw (c .enum-told2 .given .1) at (c .before .before .before .next .ensures)))
 
 pub sends-next-spec : {M : Type 1} → statement M
 sends-next-spec =
@@ -49,7 +56,7 @@ sends-next-spec =
     next-requires
     enum-known-sending
     exchanges-note-requires
-    add-entry
+    add-t18
     enum-told
     enum-told-2
     same-length

@@ -1,12 +1,8 @@
 -- `print` meets its contract: no more than the lent bytes is handed over.
-use mathlib.Core.Path.{sym, ap, _∙_}
+use mathlib.Core.Path.{sym}
+use native.Mathlib.Nat.{zero-min}
 use native.Mathlib.Omega.{arith}
 use lib.Seq.{length-take-le}
-use lib.ListN.{length}
-use Prim.Native.Nat.{min}
-use native.Mathlib.Nat.{zero-min}
-use denote.Ref.{now}
-use Rattle.lines.specs.Question.{lengthOf}
 use borrow.Author.Needs.{needs}
 use Rattle.lines.proofs.printing.print.Statement.{statement}
 use Rattle.lines.proofs.printing.print.Tie as tie
@@ -23,14 +19,23 @@ slice-aggregate-write-all c = sym (length-take-le _ _ (omega (arith, c .before .
 write-all-requires : tie.Need-write-all-requires
 write-all-requires c κs = search needs
 
+slice-aggregate-write-all-2 : tie.Need-slice-aggregate-write-all-2
+slice-aggregate-write-all-2 c = search needs
+
+write-all-requires-2 : tie.Need-write-all-requires-2
+write-all-requires-2 c κs = search needs
+
 enum-told : tie.Need-enum-told
 enum-told c = search needs
 
 returns : tie.Need-returns
-returns c = rw (c .before .before .before .before .lined .given .1) (c .before .before .least .ensures)
+returns c = rw (c .before .before .before .before .before .before .before .lined .given .1) (c .before .before .before .before .before .least .ensures)
 
 returns-2 : tie.Need-returns-2
-returns-2 c = rw (c .enum-told .given .1, zero-min)
+returns-2 c = rw (c .before .before .before .before .before .lined .given .1) (c .before .before .before .least .ensures)
+
+returns-3 : tie.Need-returns-3
+returns-3 c = rw (c .enum-told .given .1, zero-min)
 
 pub print-spec : {M : Type 1} → statement M
 print-spec =
@@ -40,6 +45,9 @@ print-spec =
     least-requires
     slice-aggregate-write-all
     write-all-requires
+    slice-aggregate-write-all-2
+    write-all-requires-2
     enum-told
     returns
-    returns-2)
+    returns-2
+    returns-3)
