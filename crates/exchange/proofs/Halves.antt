@@ -20,7 +20,8 @@ use Rattle.sites.specs.declared.site.Taken.the-variants as takens
 use Rattle.sites.specs.declared.site.Sending.the-variants as sendings
 use Rattle.sites.proofs.Running.{reached-on, reached-swap, half-steps}
 use Rattle.sites.proofs.Turning.{Turned, turned-work, turned-reached, turned-nothing, turned-half, next-raised, turned-note, Delivered, delivered}
-use Rattle.exchange.specs.Acts.{blank, swappedDesk, isRaise, Worked, Returned, Exchanged, SentNext, At, HalfDone, FullDone}
+use Rattle.exchange.specs.Mail.{blank, Keeps}
+use Rattle.exchange.specs.Acts.{swappedDesk, isRaise, Worked, KeepsReceipt, Returned, Exchanged, SentNext, At, HalfDone, FullDone}
 use Rattle.exchange.specs.declared.desk.Desk.{Desk}
 use Rattle.exchange.specs.declared.desk.Done.{Done}
 use Rattle.exchange.specs.declared.desk.Sent.{Sent}
@@ -107,7 +108,7 @@ turning-next w d t (SentNext.note e bytes sends ex next) f g q session x reached
 -- and when all have, it is a half of the theorem's.
 pub turning-done : (d d′ : Desk) {from : ℕ} {r : Done} → entries ≤ from → Worked d r → Turning (r .desk) d′ from → HalfDone d d′
 turning-done d d′ all worked t f g q session x reached at =
-    let (y, there, turned) = t f g q session x reached (rw (at .a) (worked .works)) (at .b ∙ sym (worked .second)) in
+    let (y, there, turned) = t f g q session x reached (rw (at .a, worked .desk) (worked .works)) (at .b ∙ sym (ap (λ e. e .second) (worked .desk))) in
     (y, there, turned-half all turned)
 
 -- Two halves, the second the other way round, are a full exchange.
@@ -129,3 +130,15 @@ pub returned-none : (receipt : List ℕ) (x : Site) (t : Taken) → isRaise t �
 returned-none receipt x takens.Raise e = absurd (true≢false e)
 returned-none receipt x takens.Receipt e = refl
 returned-none receipt x (takens.Refused why) e = refl
+
+-- So it is with what is kept.
+pub keeps-raise : {notes receipt notes′ : List ℕ} {count count′ : ℕ} (t : Taken) → isRaise t ≡ true → Keeps notes count receipt count′ notes′ →
+    KeepsReceipt t notes count receipt count′ notes′
+keeps-raise takens.Raise e keeps = keeps
+keeps-raise takens.Receipt e keeps = absurd (true≢false (sym e))
+keeps-raise (takens.Refused why) e keeps = absurd (true≢false (sym e))
+
+pub keeps-no-receipt : (notes receipt : List ℕ) (count : ℕ) (t : Taken) → isRaise t ≡ false → KeepsReceipt t notes count receipt count notes
+keeps-no-receipt notes receipt count takens.Raise e = absurd (true≢false e)
+keeps-no-receipt notes receipt count takens.Receipt e = (refl, refl)
+keeps-no-receipt notes receipt count (takens.Refused why) e = (refl, refl)

@@ -1,2 +1,3 @@
 -- Two sites over a scripted line: what each act makes of them.
-pub mod Acts
+pub mod Mail  -- the notes that the program keeps
+pub mod Acts  -- what each act makes of the two sites

@@ -16,6 +16,7 @@ ghost use Rattle.exchange.specs.Acts.{
   Wrote,
   Delivers,
   Brought,
+  PassedOn,
   Exchanged,
   SentNext,
   HalfDone,
@@ -68,7 +69,7 @@ pub fn works(desk: Desk) -> Done
 
 // The first site writes its next note from an entry on.
 pub fn writes(desk: Desk, from: usize, notes: &mut [u8]) -> Done
-    ensures { λ r. ⌜ Wrote desk from r ⌝ }
+    ensures { λ r. ⌜ Wrote desk from (now (notes .entry)) r (now (notes .exit)) ⌝ }
 {
     let mut after = desk;
     let first = desk.first;
@@ -128,7 +129,7 @@ fn is_raise(answer: Taken) -> bool
 
 // A note is brought to the first site, and the receipt that it writes is kept.
 pub fn brings(desk: Desk, note: [u8; Note::BYTES], notes: &mut [u8]) -> Done
-    ensures { λ r. ⌜ Brought desk note r ⌝ }
+    ensures { λ r. ⌜ Brought desk note (now (notes .entry)) r (now (notes .exit)) ⌝ }
 {
     let mut after = desk;
     let first = desk.first;
@@ -147,7 +148,9 @@ pub fn brings(desk: Desk, note: [u8; Note::BYTES], notes: &mut [u8]) -> Done
 }
 
 // A note that the first site wrote is brought to the second.
-pub fn passes_on(desk: Desk, number: usize, first: &[u8], second: &mut [u8]) -> Done {
+pub fn passes_on(desk: Desk, number: usize, first: &[u8], second: &mut [u8]) -> Done
+    ensures { λ r. ⌜ PassedOn desk number (now (first .entry)) (now (second .entry)) r (now (second .exit)) ⌝ }
+{
     let count = desk.first_count;
     if count == 0 {
         return Done {

@@ -30,7 +30,7 @@ same-length c = search needs
 
 returns : tie.Need-returns
 returns c =
-    Wrote.note (c .before .before .before .before .before .sending .given .0 .0) _ (rw (c .before .before .before .before .before .sending .given .1) at (c .before .before .before .before .before .before .before .before .next .ensures)) refl refl refl
+    Wrote.note (c .before .before .before .before .before .sending .given .0 .0) _ _ (rw (c .before .before .before .before .before .sending .given .1) at (c .before .before .before .before .before .before .before .before .next .ensures)) (c .before .before .keep .ensures) refl refl
 
 returns-2 : tie.Need-returns-2
 returns-2 c = Wrote.nothing _ (rw (c .enum-told .given .1) at (c .before .before .before .next .ensures)) refl refl refl

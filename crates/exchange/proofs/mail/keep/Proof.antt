@@ -1,77 +1,65 @@
--- `keep` is safe: a note that has room lies within the list. The loop's invariant: the lists have their lengths. The measure is what is left of the note.
-use mathlib.Core.Path.{_≡_, refl}
-use Prim.Native.Nat.{_+_, _-_, _≤_}
+-- `keep` meets its contract: the note is copied after the others where there is room.
+use mathlib.Core.Path.{_≡_, sym}
 use native.Mathlib.Omega.{arith}
-use lib.ListN.{length, length-set}
+use denote.Ref.{now}
+use Rattle.exchange.proofs.MailLaws.{none-left, too-short, keeps-none, keeps-one}
 use borrow.Author.Needs.{needs}
 use Rattle.exchange.proofs.mail.keep.Statement.{statement}
 use Rattle.exchange.proofs.mail.keep.Tie as tie
 
-abbrev Inv-loop : tie.InvT-loop
-Inv-loop notes₀ count note at i₀ notes i = (i ≤ 12) × (length note ≡ 12) × (length notes ≡ length notes₀) × (at + 12 ≤ length notes₀)
+returns : tie.Need-returns
+returns c =
+    let args = c .before .before .args in keeps-none (now (args .notes)) (args .count) (args .t3) (none-left (now (args .notes)) (args .count) (omega arith))
 
-abbrev μ-loop : tie.MeasureT-loop
-μ-loop notes₀ count note at i₀ notes i = 12 - i
+mul-at : tie.Need-mul-at
+mul-at c = search needs
 
-returns : tie.Need-returns Inv-loop μ-loop
-returns c = search needs
+add-if2 : tie.Need-add-if2
+add-if2 c = search needs
 
-mul-at : tie.Need-mul-at Inv-loop μ-loop
-mul-at c = omega arith
+returns-2 : tie.Need-returns-2
+returns-2 c =
+    let args = c .before .before .before .args in keeps-none (now (args .notes)) (args .count) (args .t3) (too-short (now (args .notes)) (args .count) (omega arith))
 
-add-if2 : tie.Need-add-if2 Inv-loop μ-loop
-add-if2 c = omega arith
+slice-aggregate-copy : tie.Need-slice-aggregate-copy
+slice-aggregate-copy c = search needs
 
-returns-2 : tie.Need-returns-2 Inv-loop μ-loop
-returns-2 c = search needs
+sub-copy : tie.Need-sub-copy
+sub-copy c = search needs
 
-loop-holds : tie.Need-loop-holds Inv-loop μ-loop
-loop-holds c = (omega arith, c .before .before .good .1 .1 .0 .1 .0 .1, refl, omega arith)
+part-copy-start : tie.Need-part-copy-start
+part-copy-start c = search needs
 
-array-read-notes : tie.Need-array-read-notes Inv-loop μ-loop
-array-read-notes c = omega arith
+part-copy-end : tie.Need-part-copy-end
+part-copy-end c = search needs
 
-add-notes : tie.Need-add-notes Inv-loop μ-loop
-add-notes c = omega arith
+copy-requires : tie.Need-copy-requires
+copy-requires c κs = search needs
 
-slice-write-notes : tie.Need-slice-write-notes Inv-loop μ-loop
-slice-write-notes c = omega arith
+add-result : tie.Need-add-result
+add-result c = search needs
 
-add-i : tie.Need-add-i Inv-loop μ-loop
-add-i c = omega arith
-
-loop-less : tie.Need-loop-less Inv-loop μ-loop
-loop-less c = omega arith
-
-loop-again : tie.Need-loop-again Inv-loop μ-loop
-loop-again c = let h = c .before .loop .inv in (omega arith, h .1, simp length-set (h .2), h .3)
-
-add-result : tie.Need-add-result Inv-loop μ-loop
-add-result c = omega arith
-
-same-length : tie.Need-same-length Inv-loop μ-loop
+same-length : tie.Need-same-length
 same-length c = search needs
 
-returns-3 : tie.Need-returns-3 Inv-loop μ-loop
-returns-3 c = search needs
+returns-3 : tie.Need-returns-3
+returns-3 c =
+    let args = c .before .before .before .before .before .before .before .before .args in
+    keeps-one (now (args .notes)) (args .count) (args .t3) _ (c .before .before .before .before .before .before .before .before .good .1 .1 .0 .1 .0 .1) (omega arith) (omega arith) (c .before .before .copy .ensures .1)
 
 pub keep-spec : {M : Type 1} → statement M
 keep-spec =
     tie.close
     (tie.spec
-    Inv-loop
-    μ-loop
     returns
     mul-at
     add-if2
     returns-2
-    loop-holds
-    array-read-notes
-    add-notes
-    slice-write-notes
-    add-i
-    loop-less
-    loop-again
+    slice-aggregate-copy
+    sub-copy
+    part-copy-start
+    part-copy-end
+    copy-requires
     add-result
     same-length
     returns-3)

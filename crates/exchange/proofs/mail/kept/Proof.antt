@@ -1,69 +1,57 @@
--- `kept` is safe: a note that is there lies within the list. The loop's invariant: the lists have their lengths. The measure is what is left of the note.
-use mathlib.Core.Path.{_≡_, refl}
-use Prim.Native.Nat.{_+_, _-_, _≤_}
+-- `kept` meets its contract: the note is copied where one is kept.
+use mathlib.Core.Path.{_≡_, sym, _∙_}
 use native.Mathlib.Omega.{arith}
-use lib.ListN.{length, length-set}
+use denote.Ref.{now}
+use Rattle.exchange.proofs.MailLaws.{none-left, too-short, kept-none, kept-one}
 use borrow.Author.Needs.{needs}
 use Rattle.exchange.proofs.mail.kept.Statement.{statement}
 use Rattle.exchange.proofs.mail.kept.Tie as tie
 
-abbrev Inv-loop : tie.InvT-loop
-Inv-loop notes number note₀ at i₀ note i = (i ≤ 12) × (length note ≡ 12) × (at + 12 ≤ length notes)
+returns : tie.Need-returns
+returns c =
+    let args = c .before .before .args in kept-none (now (args .notes)) (args .number) (none-left (now (args .notes)) (args .number) (omega arith))
 
-abbrev μ-loop : tie.MeasureT-loop
-μ-loop notes number note₀ at i₀ note i = 12 - i
+mul-at : tie.Need-mul-at
+mul-at c = search needs
 
-returns : tie.Need-returns Inv-loop μ-loop
-returns c = search needs
+add-end : tie.Need-add-end
+add-end c = search needs
 
-mul-at : tie.Need-mul-at Inv-loop μ-loop
-mul-at c = omega arith
+returns-2 : tie.Need-returns-2
+returns-2 c =
+    let args = c .before .before .before .args in kept-none (now (args .notes)) (args .number) (too-short (now (args .notes)) (args .number) (omega arith))
 
-add-if2 : tie.Need-add-if2 Inv-loop μ-loop
-add-if2 c = omega arith
+sub-copy : tie.Need-sub-copy
+sub-copy c = search needs
 
-returns-2 : tie.Need-returns-2 Inv-loop μ-loop
-returns-2 c = search needs
+part-copy-start : tie.Need-part-copy-start
+part-copy-start c = search needs
 
-loop-holds : tie.Need-loop-holds Inv-loop μ-loop
-loop-holds c = (omega arith, refl, omega arith)
+part-copy-end : tie.Need-part-copy-end
+part-copy-end c = search needs
 
-add-note : tie.Need-add-note Inv-loop μ-loop
-add-note c = omega arith
+slice-aggregate-copy : tie.Need-slice-aggregate-copy
+slice-aggregate-copy c = search needs
 
-shared-slice-read-note : tie.Need-shared-slice-read-note Inv-loop μ-loop
-shared-slice-read-note c = omega arith
+copy-requires : tie.Need-copy-requires
+copy-requires c κs = search needs
 
-array-write-note : tie.Need-array-write-note Inv-loop μ-loop
-array-write-note c = omega arith
-
-add-i : tie.Need-add-i Inv-loop μ-loop
-add-i c = omega arith
-
-loop-less : tie.Need-loop-less Inv-loop μ-loop
-loop-less c = omega arith
-
-loop-again : tie.Need-loop-again Inv-loop μ-loop
-loop-again c = let h = c .before .before .loop .inv in (omega arith, simp length-set (h .1), h .2)
-
-returns-3 : tie.Need-returns-3 Inv-loop μ-loop
-returns-3 c = search needs
+returns-3 : tie.Need-returns-3
+returns-3 c =
+    let args = c .before .before .before .before .before .before .before .args in
+    kept-one (now (args .notes)) (args .number) _ (omega arith) (omega arith) (c .before .copy .ensures .1)
 
 pub kept-spec : {M : Type 1} → statement M
 kept-spec =
     tie.close
     (tie.spec
-    Inv-loop
-    μ-loop
     returns
     mul-at
-    add-if2
+    add-end
     returns-2
-    loop-holds
-    add-note
-    shared-slice-read-note
-    array-write-note
-    add-i
-    loop-less
-    loop-again
+    sub-copy
+    part-copy-start
+    part-copy-end
+    slice-aggregate-copy
+    copy-requires
     returns-3)
