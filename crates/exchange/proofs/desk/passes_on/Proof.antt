@@ -1,6 +1,9 @@
 -- `passes_on` meets its contract: the note that is kept under the number is brought to the other site.
-use mathlib.Core.Path.{_≡_, refl, sym, ap, _∙_}
+use mathlib.Core.Path.{_≡_, refl}
+use Prim.Native.Nat.{_%_}
 use native.Mathlib.Omega.{arith}
+use denote.Ref.{now}
+use Rattle.exchange.specs.Mail.{keptAs}
 use Rattle.exchange.specs.Acts.{PassedOn}
 use borrow.Author.Needs.{needs}
 use Rattle.exchange.proofs.desk.passes_on.Statement.{statement}
@@ -29,8 +32,10 @@ same-length c = search needs
 
 returns-2 : tie.Need-returns-2
 returns-2 c =
-    let brings = c .before .before .before .before .brings in
-    PassedOn.brought (omega arith) (rw (← c .before .before .before .before .before .before .before .kept .ensures, ← c .before .before .before .before .before .before .swapped .ensures, c .swapped2 .ensures) (brings .ensures))
+    let kept = c .before .before .before .before .before .before .before .kept in
+    let args = c .before .before .before .before .before .before .before .before .before .before .before .args in
+    let note : kept .result ≡ keptAs (now (args .first)) (args .number % args .desk .«first_count») = kept .ensures in
+    PassedOn.brought (omega arith) (rw (← note, ← c .before .before .before .before .before .before .swapped .ensures, c .swapped2 .ensures) (c .before .before .before .before .brings .ensures))
 
 pub passes-on-spec : {M : Type 1} → statement M
 passes-on-spec =
