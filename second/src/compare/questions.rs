@@ -5,7 +5,7 @@
 use crate::answer::Answer;
 use crate::compare::asking::{self, Question};
 use crate::compare::classes::{class, COUNTS, KNOWN, MINUTES, PASSES, STEPS, STOCK};
-use crate::compare::classes::{NO, SETTLED, YES};
+use crate::compare::classes::{KEPT_BACK, NO, SETTLED, YES};
 use crate::compare::difference::{same_answer, told as differ, unchanged};
 use crate::compare::held::{told, Lent, NUMBER_FILL};
 use crate::compare::lending::Lending;
@@ -83,9 +83,14 @@ fn is_for_all(refusal: Refusal) -> bool {
     !matches!(refusal, Refusal::RightsOutside | Refusal::PlacesTooFew)
 }
 
-/// Read screen and stock list give only the number, and no record.
-fn number_alone(refusal: Refusal) -> Answer {
-    Answer::new(refusal.number(), 0)
+/// Read screen and stock list give only the number, and no record. One above
+/// 0 is counted apart, since it would be seen.
+fn number_alone(refusal: Refusal) -> (Outcome, Answer) {
+    let outcome = match refusal.record() {
+        0 => refused(refusal),
+        _ => KEPT_BACK,
+    };
+    (outcome, Answer::new(refusal.number(), 0))
 }
 
 impl Questions {
@@ -236,7 +241,7 @@ impl Questions {
         let (outcome, second) = match result {
             Ok(true) => (YES, Answer::accepted(1)),
             Ok(false) => (NO, Answer::accepted(0)),
-            Err(refusal) => (refused(refusal), number_alone(refusal)),
+            Err(refusal) => number_alone(refusal),
         };
         self.tally.note("may", outcome);
         let proved = proved::may(file, owner, asker, at);
@@ -275,7 +280,7 @@ impl Questions {
                 class(&STOCK, keys.len() as u32),
                 Answer::accepted(keys.iter().map(|key| 1 << key).sum()),
             ),
-            Err(refusal) => (refused(*refusal), number_alone(*refusal)),
+            Err(refusal) => number_alone(*refusal),
         };
         self.tally.note("stock", outcome);
         let proved = proved::stock(file, owner, at);
@@ -335,8 +340,10 @@ impl Questions {
         self.tally
             .enough("ask", &[&asked[..], &[rights]].concat())?;
         self.tally.enough("short", &asked)?;
-        self.tally.enough("may", &[&all[..], &[YES, NO]].concat())?;
-        self.tally.enough("stock", &[&all[..], &STOCK].concat())?;
+        let alone = [&all[..], &[KEPT_BACK]].concat();
+        self.tally
+            .enough("may", &[&alone[..], &[YES, NO]].concat())?;
+        self.tally.enough("stock", &[&alone[..], &STOCK].concat())?;
         let settled = [&all[..], &[SETTLED, places, rights]].concat();
         self.tally.enough("settle", &settled)?;
         self.tally.enough("passes", &PASSES)?;
