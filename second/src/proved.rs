@@ -39,7 +39,7 @@ pub fn check(file: &[u8]) -> Answer {
     Answer::unpack(unsafe { wac_check(file.as_ptr(), file.len()) })
 }
 
-/// Accepted with the count when all but the records is lawful.
+/// The same of a view of the file.
 pub fn count(file: &[u8]) -> Answer {
     // Safety: pointer and length are those of one lent slice, which is only read.
     Answer::unpack(unsafe { wac_count(file.as_ptr(), file.len()) })

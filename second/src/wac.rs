@@ -28,7 +28,7 @@ pub enum Refusal {
     NotVersionOne,
     CountAboveMost,
     WrongLength,
-    /// The lowest record against the table, or the one asked for.
+    /// The lowest record against the table.
     AgainstTable(usize),
     UsedPastBuffer,
     AppendToFull,
@@ -230,8 +230,8 @@ pub fn file_of(certificates: &[Certificate]) -> Vec<u8> {
     file
 }
 
-/// How many certificates there are, by everything but the records.
-pub fn count(file: &[u8]) -> Result<usize, Refusal> {
+/// The count byte of a file whose head and length are lawful.
+fn framed(file: &[u8]) -> Result<usize, Refusal> {
     if file.len() < HEAD {
         return Err(Refusal::UnderSixBytes);
     }
@@ -253,7 +253,7 @@ pub fn count(file: &[u8]) -> Result<usize, Refusal> {
 
 /// The certificates of the file in file order.
 pub fn parse(file: &[u8]) -> Result<Vec<Certificate>, Refusal> {
-    let count = count(file)?;
+    let count = framed(file)?;
     let mut certificates = Vec::with_capacity(count);
     for (number, record) in file[HEAD..].chunks(RECORD).enumerate() {
         let certificate = Certificate::read(record);
@@ -270,19 +270,13 @@ pub fn check(file: &[u8]) -> Result<usize, Refusal> {
     Ok(parse(file)?.len())
 }
 
-/// What the lent places hold after certificate `number` was fetched. Only
-/// that one record is looked at.
+/// What the lent places hold after certificate `number` was fetched.
 pub fn fetch(file: &[u8], number: usize, places: &[u32]) -> Result<Vec<u32>, Refusal> {
+    let certificates = parse(file)?;
     if places.len() < PLACES {
         return Err(Refusal::PlacesTooFew);
     }
-    if number >= count(file)? {
-        return Err(Refusal::NotBelowCount);
-    }
-    let certificate = Certificate::read(&file[HEAD + RECORD * number..][..RECORD]);
-    if !certificate.lawful() {
-        return Err(Refusal::AgainstTable(number));
-    }
+    let certificate = certificates.get(number).ok_or(Refusal::NotBelowCount)?;
     let mut after = certificate.fields();
     after.extend(&places[PLACES..]);
     Ok(after)

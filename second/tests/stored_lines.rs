@@ -6,7 +6,9 @@ use second::decision::entries::MAY_DELEGATE;
 use second::decision::lines::{chain, line, parts};
 use second::decision::rules::Rule;
 use second::decision::{ask, Decision, Places, Verdict};
+use second::stored::cut::{self, FAR, READ};
 use second::stored::{lines, questions};
+use second::wac::{HEAD, MOST, RECORD};
 
 /// Chains up to this length are looked for one by one.
 const SEARCHED: u32 = 8;
@@ -72,4 +74,27 @@ fn a_stored_chain_is_the_only_one() {
         }
     }
     assert!(searched > 100);
+}
+
+#[test]
+fn what_is_cut_off_would_be_granted() {
+    let cuts = cut::questions();
+    for length in [READ - 1, READ, READ + 1, FAR] {
+        let long = cuts.iter().find(|cut| cut.name == length.to_string());
+        let long = long.expect("each length is stored");
+        assert_eq!(long.question.len(), length);
+        assert_eq!(long.text(), "REFUSED 14 0\n");
+        let whole = &long.question[..7 + HEAD + RECORD * MOST];
+        assert!(line(whole).starts_with("GRANTED 5000 4 "));
+    }
+    for (name, text) in [
+        ("mark", "11"),
+        ("version", "12"),
+        ("count", "13"),
+        ("owner", "14"),
+    ] {
+        let named = cuts.iter().find(|cut| cut.name.ends_with(name));
+        let named = named.expect("each ground is stored");
+        assert_eq!(named.text(), format!("REFUSED {text} 0\n"));
+    }
 }

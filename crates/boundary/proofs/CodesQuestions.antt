@@ -1,4 +1,4 @@
--- The parts of a code: where its number and its values are small enough, the code determines them.
+-- The parts of a verdict's code and of a settling's: where number and values are small enough, the code determines them.
 use mathlib.Core.Path.{_≡_, refl, sym, ap, _∙_}
 use mathlib.Core.Bool.{cond}
 use mathlib.Core.List.{[], _∷_}
@@ -13,12 +13,7 @@ use Rattle.decision.specs.declared.question.Refused.the-variants.{File, Keys, R
 use Rattle.decision.specs.declared.question.Verdict.{Verdict}
 use Rattle.decision.specs.declared.question.Verdict.the-variants as verdicts
 use Rattle.decision.proofs.Bounds.{Bounded}
-use Rattle.boundary.specs.Coded.{code}
 use Rattle.boundary.specs.Questions.{wideCode, verdictCode, longCode}
-
--- a number and one value
-pub code-apart : {n n′ v v′ : ℕ} → v < 65536 → v′ < 65536 → code n v ≡ code n′ v′ → (n ≡ n′) × (v ≡ v′)
-code-apart low low′ e = (omega arith, omega arith)
 
 -- a number, steps, passes and a minute
 pub wide-apart : {a a′ n n′ p p′ m m′ : ℕ} → n < 256 → n′ < 256 → p < 65536 → p′ < 65536 → m ≤ withoutEnd → m′ ≤ withoutEnd →

@@ -20,7 +20,8 @@ use Rattle.decision.proofs.Refusals.{admit-proper}
 use Rattle.decision.proofs.Bounds.{BoundedSettling, judged-passes, settles-passes}
 use Rattle.boundary.specs.Questions.{bits, answerCode, settlingCode, AskCoded, MayCoded, StockCoded, SettleCoded}
 use Rattle.boundary.proofs.BitsLaws.{bit-le-one, bit-apart, bits-whole, bits-apart}
-use Rattle.boundary.proofs.CodesQuestions.{code-apart, long-apart, built, refused-told, verdict-apart}
+use Rattle.boundary.proofs.Codes.{code-apart}
+use Rattle.boundary.proofs.CodesQuestions.{long-apart, built, refused-told, verdict-apart}
 
 -- `decision_ask` and `decision_short`: one code, one reply
 pub ask-determined : {s s′ : List ℕ} {q q′ : Request} {r : ℕ} {m m₁ t t₁ c c₁ m′ m₁′ t′ t₁′ c′ c₁′ : List ℕ} → AreBytes s → AreBytes s′ →

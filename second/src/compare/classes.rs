@@ -6,6 +6,7 @@ use crate::compare::tally::Outcome;
 pub const YES: Outcome = (0, "yes");
 pub const NO: Outcome = (0, "no");
 pub const SETTLED: Outcome = (0, "settled");
+pub const KEPT_BACK: Outcome = (15, "a record above 0, not given");
 pub const STOCK: [Outcome; 3] = [
     (1, "key listed: the owner"),
     (2, "keys listed or more"),

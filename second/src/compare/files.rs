@@ -3,11 +3,12 @@
 
 use crate::answer::Answer;
 use crate::compare::difference::{same, same_answer, unchanged, Lent};
-use crate::compare::tally::{self, Tally, ACCEPTED, LEAST};
+use crate::compare::tally::{Outcome, Tally, ACCEPTED, LEAST};
 use crate::compare::{limits, making, Report};
 use crate::proved;
 use crate::random::Random;
 use crate::wac::{self, Certificate, Refusal, MOST, PLACES, RECORD};
+use std::cmp::Ordering;
 
 /// Random files made from each seed.
 const FILES_PER_SEED: u64 = 45_000;
@@ -25,7 +26,6 @@ const FRAME: [Refusal; 5] = [
     Refusal::CountAboveMost,
     Refusal::WrongLength,
 ];
-/// What every function that looks at records can.
 const RECORDS: [Refusal; 1] = [Refusal::AgainstTable(0)];
 const FETCH: [Refusal; 2] = [Refusal::PlacesTooFew, Refusal::NotBelowCount];
 const APPEND: [Refusal; 4] = [
@@ -34,6 +34,16 @@ const APPEND: [Refusal; 4] = [
     Refusal::NewAgainstTable(0),
     Refusal::NoRoom,
 ];
+
+/// Where the lowest bad record stands beside the one that is fetched.
+const BAD_BEFORE: Outcome = (15, "bad record before the asked one");
+const BAD_ASKED: Outcome = (15, "bad record is the asked one");
+const BAD_AFTER: Outcome = (15, "bad record after the asked one");
+const BAD_PAST: Outcome = (15, "number not below the count");
+const BAD: [Outcome; 4] = [BAD_BEFORE, BAD_ASKED, BAD_AFTER, BAD_PAST];
+/// What a fetch into too few places of a lawful file asks for.
+const FEW_BELOW: Outcome = (23, "number below the count");
+const FEW_PAST: Outcome = (23, "number not below the count");
 
 struct Files {
     tally: Tally,
@@ -66,10 +76,22 @@ pub fn compare(seeds: &[u64]) -> Result<Report, String> {
 }
 
 /// The outcome's line in the tally.
-fn line<T>(result: &Result<T, Refusal>) -> tally::Outcome {
-    match result {
-        Ok(_) => ACCEPTED,
-        Err(refusal) => (refusal.number(), refusal.words()),
+fn line<T>(result: &Result<T, Refusal>) -> Outcome {
+    result.as_ref().map_or_else(refused, |_| ACCEPTED)
+}
+
+fn refused(refusal: &Refusal) -> Outcome {
+    (refusal.number(), refusal.words())
+}
+
+/// The class of a fetch of this number where record `bad` is the lowest
+/// against the table.
+fn beside(bad: usize, number: usize, count: usize) -> Outcome {
+    match bad.cmp(&number) {
+        _ if number >= count => BAD_PAST,
+        Ordering::Less => BAD_BEFORE,
+        Ordering::Equal => BAD_ASKED,
+        Ordering::Greater => BAD_AFTER,
     }
 }
 
@@ -127,7 +149,7 @@ impl Files {
     }
 
     fn compare_count(&mut self, file: &[u8]) -> Result<(), String> {
-        let result = wac::count(file);
+        let result = wac::check(file);
         self.tally.note("count", line(&result));
         let second = answer(&result, |&count| count);
         same_answer(second, proved::count(file), "count", file)
@@ -147,7 +169,7 @@ impl Files {
     fn compare_fetch(&mut self, file: &[u8], number: usize, places: usize) -> Result<(), String> {
         let lent: Vec<u32> = (0..places as u32).map(|place| PLACE_FILL ^ place).collect();
         let result = wac::fetch(file, number, &lent);
-        self.tally.note("fetch", line(&result));
+        self.note_fetch(file, number, places, &result);
         let held = result.as_ref().unwrap_or(&lent);
         let second = Lent::expected(answer(&result, |_| 0), held, PLACE_FILL);
         let proved = Lent::of_call(&lent, PLACE_FILL, |fields| {
@@ -155,6 +177,29 @@ impl Files {
         });
         let call = || format!("fetch of number {number} into {places} places");
         same(&second, &proved, call, file)
+    }
+
+    /// The answer, and what else of its refusals holds in that call.
+    fn note_fetch(
+        &mut self,
+        file: &[u8],
+        number: usize,
+        places: usize,
+        result: &Result<Vec<u32>, Refusal>,
+    ) {
+        self.tally.note("fetch", line(result));
+        let count = file.get(5).map_or(0, |&count| usize::from(count));
+        if let Err(Refusal::AgainstTable(bad)) = result {
+            self.tally.note("bad record", beside(*bad, number, count));
+        }
+        if places < PLACES {
+            let outcome = match result {
+                Err(Refusal::PlacesTooFew) if number < count => FEW_BELOW,
+                Err(Refusal::PlacesTooFew) => FEW_PAST,
+                other => line(other),
+            };
+            self.tally.note("few places", outcome);
+        }
     }
 
     /// The right used length with every room, then wrong used lengths.
@@ -223,8 +268,11 @@ impl Files {
     /// Whether every outcome was seen often enough, and every count.
     fn enough(&self) -> Result<(), String> {
         self.seen_in("check", &[&FRAME, &RECORDS])?;
-        self.seen_in("count", &[&FRAME])?;
+        self.seen_in("count", &[&FRAME, &RECORDS])?;
         self.seen_in("fetch", &[&FRAME, &RECORDS, &FETCH])?;
+        self.tally.enough("bad record", &BAD)?;
+        self.refused_in("few places", &[&FRAME, &RECORDS])?;
+        self.tally.enough("few places", &[FEW_BELOW, FEW_PAST])?;
         self.seen_in("append", &[&FRAME, &RECORDS, &APPEND])?;
         self.seen_in("read back", &[])?;
         match self.lawful.iter().position(|&times| times < LEAST) {
@@ -234,10 +282,12 @@ impl Files {
     }
 
     fn seen_in(&self, function: &'static str, refusals: &[&[Refusal]]) -> Result<(), String> {
-        let mut outcomes = vec![ACCEPTED];
-        for refusal in refusals.concat() {
-            outcomes.push((refusal.number(), refusal.words()));
-        }
+        self.tally.enough(function, &[ACCEPTED])?;
+        self.refused_in(function, refusals)
+    }
+
+    fn refused_in(&self, function: &'static str, refusals: &[&[Refusal]]) -> Result<(), String> {
+        let outcomes: Vec<Outcome> = refusals.concat().iter().map(refused).collect();
         self.tally.enough(function, &outcomes)
     }
 

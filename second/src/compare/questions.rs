@@ -5,7 +5,7 @@
 use crate::answer::Answer;
 use crate::compare::asking::{self, Question};
 use crate::compare::classes::{class, COUNTS, KNOWN, MINUTES, PASSES, STEPS, STOCK};
-use crate::compare::classes::{NO, SETTLED, YES};
+use crate::compare::classes::{KEPT_BACK, NO, SETTLED, YES};
 use crate::compare::difference::{same_answer, told as differ, unchanged};
 use crate::compare::held::{told, Lent, NUMBER_FILL};
 use crate::compare::lending::Lending;
@@ -83,8 +83,14 @@ fn is_for_all(refusal: Refusal) -> bool {
     !matches!(refusal, Refusal::RightsOutside | Refusal::PlacesTooFew)
 }
 
-fn refusal_answer(refusal: Refusal) -> Answer {
-    Answer::new(refusal.number(), refusal.record() as usize)
+/// Read screen and stock list give only the number, and no record. One above
+/// 0 is counted apart, since it would be seen.
+fn number_alone(refusal: Refusal) -> (Outcome, Answer) {
+    let outcome = match refusal.record() {
+        0 => refused(refusal),
+        _ => KEPT_BACK,
+    };
+    (outcome, Answer::new(refusal.number(), 0))
 }
 
 impl Questions {
@@ -235,7 +241,7 @@ impl Questions {
         let (outcome, second) = match result {
             Ok(true) => (YES, Answer::accepted(1)),
             Ok(false) => (NO, Answer::accepted(0)),
-            Err(refusal) => (refused(refusal), refusal_answer(refusal)),
+            Err(refusal) => number_alone(refusal),
         };
         self.tally.note("may", outcome);
         let proved = proved::may(file, owner, asker, at);
@@ -248,13 +254,14 @@ impl Questions {
         self.may_agrees(file, request, proved)
     }
 
-    /// The read screen says what the archive's own short form says.
+    /// The read screen says what the archive's own short form says, without
+    /// the record.
     fn may_agrees(&self, file: &[u8], request: Request, proved: Answer) -> Result<(), String> {
         let asked = proved::ask_short(file, request, Lent::of(Places::ENOUGH).places());
         let from_asking = match asked.number {
             0 | 2 => Answer::accepted(1),
             1 => Answer::accepted(0),
-            number => Answer::new(number, asked.minute as usize),
+            number => Answer::new(number, 0),
         };
         let call = format!("may against the short form of {request:?}");
         same_answer(from_asking, proved, &call, file)
@@ -273,7 +280,7 @@ impl Questions {
                 class(&STOCK, keys.len() as u32),
                 Answer::accepted(keys.iter().map(|key| 1 << key).sum()),
             ),
-            Err(refusal) => (refused(*refusal), refusal_answer(*refusal)),
+            Err(refusal) => number_alone(*refusal),
         };
         self.tally.note("stock", outcome);
         let proved = proved::stock(file, owner, at);
@@ -333,8 +340,10 @@ impl Questions {
         self.tally
             .enough("ask", &[&asked[..], &[rights]].concat())?;
         self.tally.enough("short", &asked)?;
-        self.tally.enough("may", &[&all[..], &[YES, NO]].concat())?;
-        self.tally.enough("stock", &[&all[..], &STOCK].concat())?;
+        let alone = [&all[..], &[KEPT_BACK]].concat();
+        self.tally
+            .enough("may", &[&alone[..], &[YES, NO]].concat())?;
+        self.tally.enough("stock", &[&alone[..], &STOCK].concat())?;
         let settled = [&all[..], &[SETTLED, places, rights]].concat();
         self.tally.enough("settle", &settled)?;
         self.tally.enough("passes", &PASSES)?;

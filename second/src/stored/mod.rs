@@ -15,10 +15,14 @@
 //!   and of many passes;
 //! - random: random files and requests, lawful and damaged.
 //!
+//! Beside them stand the questions that `ask` does not read to their end
+//! (`cut`), each with a name.
+//!
 //! Which of several shortest best chains is printed is not fixed by document
 //! 01, so a question with answer 0 is stored only if it has one such chain.
 
 mod counts;
+pub mod cut;
 mod judged;
 mod papers;
 mod refused;
