@@ -1,8 +1,11 @@
 //! The line the decision program prints for one question: owner, asker and
 //! rights a byte each, T in 4 bytes, high byte first, then the file.
 
+use super::deciding::{ask, Decision};
 use super::entries::{mark_entry, END, MAY_DELEGATE};
-use super::{ask, fewest, Decision, Places, Refusal, Request, Verdict};
+use super::fewest;
+use super::request::{Places, Request};
+use super::verdict::{Refusal, Verdict};
 
 /// Bytes before the file.
 pub const REQUEST: usize = 7;
