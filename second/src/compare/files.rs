@@ -3,10 +3,11 @@
 
 use crate::answer::Answer;
 use crate::compare::difference::{same, same_answer, unchanged, Lent};
+use crate::compare::report::Report;
 use crate::compare::tally::{Outcome, Tally, ACCEPTED, LEAST};
-use crate::compare::{limits, making, Report};
+use crate::making::random::Random;
+use crate::making::{files as making, limits};
 use crate::proved;
-use crate::random::Random;
 use crate::wac::{self, Certificate, Refusal, MOST, PLACES, RECORD};
 use std::cmp::Ordering;
 

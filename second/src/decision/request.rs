@@ -7,7 +7,7 @@ pub const CHAIN_PLACES: usize = 200;
 /// The right the short form asks for: open.
 pub const SHORT_RIGHTS: u8 = 2;
 
-/// May the asker use these rights of the owner's at minute `at`?
+/// May the asker use these rights on the owner's resource at minute `at`?
 #[derive(Clone, Copy, PartialEq, Eq, Debug)]
 pub struct Request {
     pub owner: u8,

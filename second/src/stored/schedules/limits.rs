@@ -2,10 +2,10 @@
 //! files, and a name handed on between the sites.
 
 use super::{after, between, halves, Schedule, REQUEST};
-use crate::compare::scheduling::EXCHANGES;
 use crate::decision::Request;
-use crate::dense;
-use crate::random::Random;
+use crate::making::dense;
+use crate::making::random::Random;
+use crate::making::scheduling::EXCHANGES;
 use crate::sites::acts::Act::{self, Bring, Full, Hand, Work, Write};
 use crate::sites::acts::Side::{self, A, B};
 use crate::sites::exchange::KEPT;
