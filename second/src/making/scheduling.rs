@@ -53,9 +53,9 @@ pub struct Schedule {
 }
 
 impl Schedule {
+    /// The program's input.
     pub fn input(&self) -> Vec<u8> {
-        let acts = self.acts.iter().flat_map(Act::bytes);
-        self.opening.bytes().into_iter().chain(acts).collect()
+        self.opening.input(&self.acts)
     }
 }
 

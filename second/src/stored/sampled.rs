@@ -1,6 +1,6 @@
 //! Stored questions that are made at random from a fixed seed.
 
-use super::{is_definite, Stored};
+use super::question::{is_definite, Stored};
 use crate::decision::lines::question;
 use crate::decision::{ask, Places, Verdict};
 use crate::making::question::Question;

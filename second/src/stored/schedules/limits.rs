@@ -1,7 +1,7 @@
 //! The last entry numbers, lists that are full, acts that end the run, full
 //! files, and a name handed on between the sites.
 
-use super::{after, between, halves, Schedule, REQUEST};
+use super::schedule::{after, between, halves, Schedule};
 use crate::decision::Request;
 use crate::making::dense;
 use crate::making::random::Random;
@@ -12,6 +12,7 @@ use crate::sites::exchange::KEPT;
 use crate::sites::notes::{Kind, Note};
 use crate::sites::opening::Opening;
 use crate::stored::counts::relay;
+use crate::stored::judged::REQUEST;
 use crate::wac::{Certificate, ACCESS_ONLY, MOST};
 
 /// Seed of the dense files.

@@ -1,6 +1,6 @@
 //! Stored schedules that are made at random from a fixed seed.
 
-use super::Schedule;
+use super::schedule::Schedule;
 use crate::making::random::Random;
 use crate::making::scheduling::schedule;
 
