@@ -39,12 +39,11 @@ fn joined(above: &str, name: &str) -> String {
 
 /// The paths that a `use` names, its braces opened.
 fn opened(path: &str) -> Vec<String> {
-    let Some((before, inside)) = path.split_once('{') else {
-        return vec![path.to_string()];
-    };
+    let (before, inside) = path.split_once('{').unwrap_or(("", path));
     assert!(!inside.contains('{'), "braces within braces: {path}");
     let parts = inside.trim_end_matches('}').split(',').map(str::trim);
-    parts.map(|part| format!("{before}{part}")).collect()
+    let named = parts.map(|part| part.split(" as ").next().unwrap_or_default());
+    named.map(|part| format!("{before}{part}")).collect()
 }
 
 /// The longest part of a path that is a module.
@@ -64,8 +63,12 @@ fn parts(own: &str) -> (&str, &str) {
 /// The modules that the code names in a `use`.
 fn used(own: &str, code: &str, modules: &Modules) -> BTreeSet<String> {
     let mut found = BTreeSet::new();
-    for statement in code.replace("\npub use ", "\nuse ").split("\nuse ").skip(1) {
-        let (path, rest) = statement.split_once(';').expect("a use has an end");
+    let code = code.replace("\npub use ", "\nuse ");
+    for (number, statement) in code.split("\nuse ").enumerate() {
+        let (path, rest) = match number {
+            0 => ("", statement),
+            _ => statement.split_once(';').expect("a use has an end"),
+        };
         let elsewhere = rest.contains("crate::") || rest.contains("super::");
         assert!(!elsewhere, "{own} names a module without a use");
         for path in opened(path) {
