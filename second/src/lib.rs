@@ -4,14 +4,13 @@
 pub mod answer;
 pub mod compare;
 pub mod decision;
-pub mod dense;
+pub mod making;
 #[cfg(feature = "decision")]
 pub mod plain;
 pub mod program;
 pub mod proved;
 #[cfg(feature = "decision")]
 pub mod proved_decision;
-pub mod random;
 pub mod sites;
 pub mod stored;
 pub mod wac;

@@ -147,8 +147,8 @@ impl Certificate {
             identifiers: [record[5], record[6], record[7]],
             mark: record[8],
             rights: record[9],
-            not_before: high_byte_first(&record[10..14]),
-            not_after: high_byte_first(&record[14..18]),
+            not_before: u32::from_be_bytes([record[10], record[11], record[12], record[13]]),
+            not_after: u32::from_be_bytes([record[14], record[15], record[16], record[17]]),
         }
     }
 
@@ -211,12 +211,6 @@ impl Certificate {
 
 fn is_identifier(byte: u8) -> bool {
     byte < 10
-}
-
-fn high_byte_first(bytes: &[u8]) -> u32 {
-    bytes
-        .iter()
-        .fold(0, |number, &byte| number * 256 + u32::from(byte))
 }
 
 /// A file of these certificates, with no look at whether they are lawful;

@@ -2,12 +2,12 @@
 //! configurations, on small files: whatever chain the search finds must be
 //! known, and every short one that is known must be found.
 
-use second::compare::asking;
 use second::decision::chains::Configuration;
 use second::decision::entries::{arrivals, entry, MAY_DELEGATE};
 use second::decision::rules::Rule;
 use second::decision::{ask, Decision, Places};
-use second::random::Random;
+use second::making::asking;
+use second::making::random::Random;
 use std::collections::HashMap;
 
 const QUESTIONS: usize = 1_500;

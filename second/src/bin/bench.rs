@@ -6,11 +6,11 @@
 //! in which most notes go, and one in which none go.
 
 use second::decision::Request;
-use second::dense;
+use second::making::dense;
+use second::making::random::Random;
 use second::plain::Work;
 use second::program;
 use second::proved_decision::{ask, LentPlaces, Told};
-use second::random::Random;
 use second::sites::acts::{Act, Side};
 use second::sites::exchange::Exchange;
 use second::sites::opening::Opening;

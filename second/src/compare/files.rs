@@ -3,10 +3,11 @@
 
 use crate::answer::Answer;
 use crate::compare::difference::{same, same_answer, unchanged, Lent};
+use crate::compare::report::Report;
 use crate::compare::tally::{Outcome, Tally, ACCEPTED, LEAST};
-use crate::compare::{limits, making, Report};
+use crate::making::random::Random;
+use crate::making::{files, limits};
 use crate::proved;
-use crate::random::Random;
 use crate::wac::{self, Certificate, Refusal, MOST, PLACES, RECORD};
 use std::cmp::Ordering;
 
@@ -109,7 +110,7 @@ impl Files {
         for certificate in limits::certificates() {
             let file = wac::file_of(&[certificate]);
             self.compare_file(&file, &mut random)?;
-            let held = wac::file_of(&vec![making::certificate(&mut random); random.below(3)]);
+            let held = wac::file_of(&vec![files::certificate(&mut random); random.below(3)]);
             self.compare_append(&held, RECORD, held.len(), &certificate, &mut random)?;
         }
         for file in limits::files() {
@@ -121,7 +122,7 @@ impl Files {
     fn compare_seed(&mut self, seed: u64) -> Result<(), String> {
         let mut random = Random::new(seed);
         for _ in 0..FILES_PER_SEED {
-            let file = making::file(&mut random);
+            let file = files::file(&mut random);
             self.compare_file(&file, &mut random)?;
         }
         Ok(())
@@ -156,7 +157,7 @@ impl Files {
     }
 
     fn compare_fetches(&mut self, file: &[u8], random: &mut Random) -> Result<(), String> {
-        for number in making::asked_numbers(file, random) {
+        for number in files::asked_numbers(file, random) {
             self.compare_fetch(file, number, PLACES)?;
             self.compare_fetch(file, number, PLACES + 3)?;
         }
@@ -207,12 +208,12 @@ impl Files {
         let more = RECORD + random.within(1, 2 * RECORD);
         let rooms = [0, RECORD - 1, RECORD, more];
         for room in rooms {
-            let new = making::new_certificate(random);
+            let new = files::new_certificate(random);
             self.compare_append(file, room, file.len(), &new, random)?;
         }
         let room = random.one_of(&rooms);
-        for used in making::wrong_used_lengths(file.len(), room, random) {
-            let new = making::new_certificate(random);
+        for used in files::wrong_used_lengths(file.len(), room, random) {
+            let new = files::new_certificate(random);
             self.compare_append(file, room, used, &new, random)?;
         }
         Ok(())

@@ -1,38 +1,23 @@
 //! The comparison of the second program with the proved archive, and with the
-//! proved program of two sites. Each
-//! compared part is a module here with one function that is given the seeds
-//! and gives back a report, or says what went wrong.
+//! proved program of two sites. Each compared part is a module here with one
+//! function that is given the seeds and gives back a report, or says what went
+//! wrong. What is compared on is made elsewhere (`making`).
 
-pub mod asking;
 pub mod classes;
 pub mod difference;
 pub mod files;
-pub mod halving;
+pub mod happenings;
 #[cfg(feature = "decision")]
 pub mod held;
 pub mod judging;
 pub mod lending;
-pub mod limits;
-pub mod long;
-pub mod making;
-pub mod outside;
 #[cfg(feature = "decision")]
 pub mod questions;
+pub mod report;
 pub mod schedules;
-pub mod scheduling;
-pub mod tables;
 pub mod tally;
 
-use tally::Tally;
-
-/// What a part saw when it found no difference.
-pub struct Report {
-    /// How much was compared, in words: "300000 files".
-    pub compared: String,
-    pub tally: Tally,
-    /// Further lines for the reader.
-    pub remarks: Vec<String>,
-}
+pub use report::Report;
 
 /// A part compares everything it makes from these seeds.
 pub type Part = fn(&[u64]) -> Result<Report, String>;

@@ -3,19 +3,20 @@
 //! compared; a chain is judged as a chain, since several may be right.
 
 use crate::answer::Answer;
-use crate::compare::asking::{self, Question};
 use crate::compare::classes::{class, COUNTS, KNOWN, MINUTES, PASSES, STEPS, STOCK};
 use crate::compare::classes::{KEPT_BACK, NO, SETTLED, YES};
 use crate::compare::difference::{same_answer, told as differ, unchanged};
 use crate::compare::held::{told, Lent, NUMBER_FILL};
 use crate::compare::lending::Lending;
+use crate::compare::report::Report;
 use crate::compare::tally::{Outcome, Tally};
-use crate::compare::{tables, Report};
 use crate::decision::fewest::TOO_MANY;
 use crate::decision::lines::parts;
 use crate::decision::{self, Decision, Places, Refusal, Request, Verdict};
+use crate::making::question::Question;
+use crate::making::random::Random;
+use crate::making::{asking, tables};
 use crate::proved_decision as proved;
-use crate::random::Random;
 use crate::stored;
 use crate::wac;
 

@@ -5,14 +5,15 @@
 
 use crate::compare::classes::class;
 use crate::compare::difference::hex;
+use crate::compare::happenings::{from_outside, on_the_line, FATES, SORTS};
 use crate::compare::judging::{ends_at_rest, holds_joint, is_safe_and_agrees, shown, Shown};
-use crate::compare::outside::Sort;
-use crate::compare::scheduling::{self, Schedule, LINE};
+use crate::compare::report::Report;
 use crate::compare::tally::{Outcome, Tally};
-use crate::compare::{halving, Report};
 use crate::decision::{ask_together, Decision};
+use crate::making::halving;
+use crate::making::random::Random;
+use crate::making::scheduling::{self, Schedule};
 use crate::program;
-use crate::random::Random;
 use crate::sites::acts::{Act, Side};
 use crate::sites::exchange::text;
 use crate::sites::opening::Opening;
@@ -202,12 +203,11 @@ impl Schedules {
                 self.tally.note("acts", outcome);
             }
         }
-        for &happened in &schedule.happened {
-            let function = match LINE.contains(&happened) {
-                true => "line",
-                false => "outside",
-            };
-            self.tally.note(function, happened);
+        for &fate in &schedule.fates {
+            self.tally.note("line", on_the_line(fate));
+        }
+        for &sort in &schedule.outside {
+            self.tally.note("outside", from_outside(sort));
         }
         if let Some(Act::Full(first)) = schedule.acts.last() {
             self.tally.note("orders", ORDERS[*first as usize]);
@@ -230,9 +230,8 @@ impl Schedules {
         self.tally.enough("acts", &SAID)?;
         self.tally.enough("sites", &RESTS)?;
         self.tally.enough("openings", &OPENINGS)?;
-        self.tally.enough("line", &LINE)?;
-        self.tally
-            .enough("outside", &Sort::ALL.map(Sort::outcome))?;
+        self.tally.enough("line", &FATES)?;
+        self.tally.enough("outside", &SORTS)?;
         self.tally.enough("halves", &HALVES)?;
         self.tally.enough("counts", &COUNTS)?;
         self.tally.enough("joint", &JOINT)?;

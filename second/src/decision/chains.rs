@@ -2,8 +2,8 @@
 //! the list [10] to the asker with the list [10] or [11].
 
 use super::entries::{ACCESS_ONLY, MAY_DELEGATE};
+use super::request::Request;
 use super::rules::Rule;
-use super::Request;
 
 /// A key and a list of symbols, the first of them last in the vector.
 #[derive(Clone, PartialEq, Eq, Hash, Debug)]

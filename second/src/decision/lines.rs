@@ -1,8 +1,11 @@
 //! The line the decision program prints for one question: owner, asker and
 //! rights a byte each, T in 4 bytes, high byte first, then the file.
 
+use super::deciding::{ask, Decision};
 use super::entries::{mark_entry, END, MAY_DELEGATE};
-use super::{ask, fewest, Decision, Places, Refusal, Request, Verdict};
+use super::fewest;
+use super::request::{Places, Request};
+use super::verdict::{Refusal, Verdict};
 
 /// Bytes before the file.
 pub const REQUEST: usize = 7;
@@ -17,13 +20,13 @@ pub fn question(request: Request, file: &[u8]) -> Vec<u8> {
 
 /// The request and the file, if there are bytes enough for a request.
 pub fn parts(question: &[u8]) -> Option<(Request, &[u8])> {
-    let (head, file) = question.split_at_checked(REQUEST)?;
-    let at = head[3..].iter();
+    let (&[owner, asker, rights, t1, t2, t3, t4], file) =
+        question.split_first_chunk::<REQUEST>()?;
     let request = Request {
-        owner: head[0],
-        asker: head[1],
-        rights: head[2],
-        at: at.fold(0, |number, &byte| number * 256 + u32::from(byte)),
+        owner,
+        asker,
+        rights,
+        at: u32::from_be_bytes([t1, t2, t3, t4]),
     };
     Some((request, file))
 }

@@ -1,6 +1,6 @@
 //! The usable certificates of a request, as rules that rewrite.
 
-use super::Request;
+use super::request::Request;
 use crate::wac::{Certificate, AUTHORIZATION};
 
 /// Key `from` with the symbol `reads` first becomes key `to` with the

@@ -2,9 +2,10 @@
 //! written in the input, and a line of text after each act.
 
 use super::acts::{Act, Side};
+use super::entry::number;
 use super::notes::{Bytes, Note};
 use super::opening::Opening;
-use super::{number, Site, Taken};
+use super::site::{Site, Taken};
 use crate::decision;
 use std::fmt;
 

@@ -1,6 +1,6 @@
 //! A note of 12 bytes: session, kind, key, symbol, arrival, minute.
 
-use super::Entry;
+use super::entry::Entry;
 use crate::decision::entries::{arrivals, KEYS, MAY_DELEGATE};
 
 pub const LENGTH: usize = 12;

@@ -1,6 +1,7 @@
 //! What stands before the acts in the program's input: owner, asker, rights,
 //! T, the session, and each file after its length in 2 bytes.
 
+use super::acts::Act;
 use crate::decision::lines::{parts, question};
 use crate::decision::Request;
 
@@ -27,6 +28,13 @@ impl Opening {
         Some((opening, acts))
     }
 
+    /// The program's whole input: the opening and the acts after it.
+    pub fn input(&self, acts: &[Act]) -> Vec<u8> {
+        let acts = acts.iter().flat_map(Act::bytes);
+        self.bytes().into_iter().chain(acts).collect()
+    }
+
+    /// The opening's own bytes.
     pub fn bytes(&self) -> Vec<u8> {
         let mut bytes = question(self.request, &self.session.to_be_bytes());
         for file in &self.files {

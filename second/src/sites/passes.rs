@@ -1,7 +1,7 @@
 //! Passes over a map of minutes, literally: the new map is worked out from the
 //! old one, certificate by certificate.
 
-use super::Entry;
+use super::entry::Entry;
 use crate::decision::entries::END;
 use crate::decision::rules::Rule;
 use std::collections::BTreeMap;

@@ -1,6 +1,6 @@
 //! Files of 0, 1, 127, 128 and 129 certificates.
 
-use super::Stored;
+use super::question::Stored;
 use crate::decision::lines::question;
 use crate::decision::Request;
 use crate::wac::{file_of, Certificate, ACCESS_ONLY, MAY_DELEGATE};

@@ -1,7 +1,7 @@
 //! Document 01's "A file to judge by": P1 to P10 with their lines, and other
 //! requests about the same file.
 
-use super::Stored;
+use super::question::Stored;
 use crate::decision::lines::question;
 use crate::decision::Request;
 use crate::wac::{file_of, Certificate, ACCESS_ONLY, MAY_DELEGATE};

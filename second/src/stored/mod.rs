@@ -25,25 +25,15 @@ mod counts;
 pub mod cut;
 mod judged;
 mod papers;
+mod question;
 mod refused;
 mod sampled;
 pub mod schedules;
 
-use crate::decision::lines::{chains, line, parts};
-use crate::decision::{ask, Places, Verdict};
+use crate::decision::lines::line;
+use question::is_definite;
 
-pub struct Stored {
-    pub question: Vec<u8>,
-    /// The line that document 01 or a paper gives.
-    pub given: Option<&'static str>,
-}
-
-impl Stored {
-    fn new(question: Vec<u8>) -> Stored {
-        let given = None;
-        Stored { question, given }
-    }
-}
+pub use question::Stored;
 
 /// All sets.
 fn sets() -> Vec<Vec<Stored>> {
@@ -62,20 +52,6 @@ fn sets() -> Vec<Vec<Stored>> {
 pub fn questions() -> Vec<Stored> {
     let all = sets().into_iter().flatten();
     all.filter(|stored| is_definite(&stored.question)).collect()
-}
-
-/// Whether there is only one line that is right.
-fn is_definite(question: &[u8]) -> bool {
-    let Some((request, file)) = parts(question) else {
-        return true;
-    };
-    match ask(file, request, Places::ENOUGH) {
-        Ok(decision) => match decision.verdict {
-            Verdict::Granted { .. } => chains(&decision) == 1,
-            _ => true,
-        },
-        Err(_) => true,
-    }
 }
 
 /// The standard input of `cases`: each question after its length in 2 bytes.

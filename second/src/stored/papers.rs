@@ -5,7 +5,7 @@
 //! in the papers, which count no passes; the passes in the lines are worked
 //! out by hand from document 01.
 
-use super::Stored;
+use super::question::Stored;
 use crate::decision::lines::question;
 use crate::decision::Request;
 use crate::wac::{file_of, Certificate, ACCESS_ONLY, MAY_DELEGATE};

@@ -2,7 +2,7 @@
 //! not: each ground alone, and grounds together, of which the lowest counts.
 
 use super::judged::{file, REQUEST};
-use super::Stored;
+use super::question::Stored;
 use crate::decision::lines::question;
 use crate::decision::Request;
 use crate::wac::{HEAD, RECORD};

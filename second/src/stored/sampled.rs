@@ -1,11 +1,11 @@
 //! Stored questions that are made at random from a fixed seed.
 
-use super::{is_definite, Stored};
-use crate::compare::asking::{self, Question};
-use crate::compare::long;
+use super::question::{is_definite, Stored};
 use crate::decision::lines::question;
 use crate::decision::{ask, Places, Verdict};
-use crate::random::Random;
+use crate::making::question::Question;
+use crate::making::random::Random;
+use crate::making::{asking, long};
 
 const SEED: u64 = 20;
 

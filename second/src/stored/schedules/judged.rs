@@ -1,7 +1,7 @@
 //! P11 of document 01, and the same halves in other orders and under the
 //! requests of P1 to P10.
 
-use super::{halves, input, Schedule};
+use super::schedule::{halves, Schedule};
 use crate::decision::Request;
 use crate::sites::acts::Act::{Bring, Full, Work, Write};
 use crate::sites::acts::Side::{A, B};
@@ -21,7 +21,7 @@ const REQUESTS: [(&str, u8, u8, u32); 8] = [
 
 /// The input of P11: two full exchanges, A first.
 pub fn eleventh() -> Vec<u8> {
-    input(&halves(), &[Full(A), Full(A)])
+    halves().input(&[Full(A), Full(A)])
 }
 
 pub fn schedules() -> Vec<Schedule> {

@@ -1,17 +1,18 @@
 //! The last entry numbers, lists that are full, acts that end the run, full
 //! files, and a name handed on between the sites.
 
-use super::{after, between, halves, Schedule, REQUEST};
-use crate::compare::scheduling::EXCHANGES;
+use super::schedule::{after, between, halves, Schedule};
 use crate::decision::Request;
-use crate::dense;
-use crate::random::Random;
+use crate::making::dense;
+use crate::making::random::Random;
+use crate::making::scheduling::EXCHANGES;
 use crate::sites::acts::Act::{self, Bring, Full, Hand, Work, Write};
 use crate::sites::acts::Side::{self, A, B};
 use crate::sites::exchange::KEPT;
 use crate::sites::notes::{Kind, Note};
 use crate::sites::opening::Opening;
 use crate::stored::counts::relay;
+use crate::stored::judged::REQUEST;
 use crate::wac::{Certificate, ACCESS_ONLY, MOST};
 
 /// Seed of the dense files.

@@ -1,14 +1,14 @@
 //! What a line does to notes: loss, repetition, delay, reordering, replay; and
 //! what a site must not take for more than it is.
 
-use super::{after, between, halves, input, Schedule, REQUEST};
+use super::schedule::{after, between, halves, Schedule};
 use crate::decision::Request;
 use crate::sites::acts::Act::{self, Bring, Full, Hand, Work, Write};
 use crate::sites::acts::Side::{self, A, B};
 use crate::sites::exchange::Exchange;
 use crate::sites::number;
 use crate::sites::opening::Opening;
-use crate::stored::judged::certificates;
+use crate::stored::judged::{certificates, REQUEST};
 use crate::wac::{file_of, Certificate, ACCESS_ONLY};
 
 pub fn schedules() -> Vec<Schedule> {
@@ -199,6 +199,6 @@ fn owner_is_asker() -> Schedule {
 fn no_acts() -> Schedule {
     Schedule {
         name: "no-acts".to_string(),
-        input: input(&halves(), &[]),
+        input: halves().bytes(),
     }
 }

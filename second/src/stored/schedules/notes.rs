@@ -1,7 +1,7 @@
 //! Notes from outside: each field out of range and at its limits, another
 //! session, receipts for later minutes, and which ground comes first.
 
-use super::{halves, Schedule, SESSION};
+use super::schedule::{halves, Schedule, SESSION};
 use crate::sites::acts::Act::{self, Full, Hand, Work, Write};
 use crate::sites::acts::Side::{self, A, B};
 use crate::sites::notes::Bytes;

@@ -1,7 +1,7 @@
 //! Openings that are refused: 9 to 15 and 20 to 22, on either side, alone and
 //! with others, of which A's comes before B's and the lowest first.
 
-use super::{halves, input, Schedule};
+use super::schedule::{halves, Schedule};
 use crate::decision::Request;
 use crate::sites::acts::Act::Full;
 use crate::sites::acts::Side::{self, A};
@@ -51,7 +51,7 @@ fn too_many() -> Vec<u8> {
 /// The input of P11 cut off before its acts: within the request, the session,
 /// the first length, A's file, the second length and B's file.
 fn cut_off() -> Vec<Schedule> {
-    let whole = input(&halves(), &[]);
+    let whole = halves().bytes();
     let second = 7 + 4 + 2 + HEAD + 2 * RECORD;
     let lengths = [0, 6, 10, 12, second - 1, second + 1, whole.len() - 1];
     let cut = |length: usize| Schedule {
@@ -104,7 +104,7 @@ fn several() -> Vec<Schedule> {
     fifteen.request.at = 0;
     let mut request = spoiled(&[(Side::B, 1, 0)]);
     request.request.rights = 0;
-    let spoiled_and_cut = input(&both, &[]);
+    let spoiled_and_cut = both.bytes();
     vec![
         refused("opening-15-a-before-11-b", &both),
         refused("opening-15-lowest-record", &lowest),

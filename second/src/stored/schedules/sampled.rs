@@ -1,8 +1,8 @@
 //! Stored schedules that are made at random from a fixed seed.
 
-use super::Schedule;
-use crate::compare::scheduling::schedule;
-use crate::random::Random;
+use super::schedule::Schedule;
+use crate::making::random::Random;
+use crate::making::scheduling::schedule;
 
 const SEED: u64 = 40;
 /// So many are stored of each share.

@@ -2,7 +2,7 @@
 //! size and ones with damage of every kind the table and the head can take,
 //! and the numbers and used lengths to ask about them.
 
-use crate::random::Random;
+use super::random::Random;
 use crate::wac::{file_of, Certificate};
 use crate::wac::{ACCESS_ONLY, AUTHORIZATION, HEAD, MAY_DELEGATE, MOST, NAME, NOTHING, RECORD};
 

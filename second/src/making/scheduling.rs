@@ -2,11 +2,10 @@
 //! that loses, repeats, delays and reorders, notes from outside, and at the end
 //! full exchanges until both sites rest.
 
-use crate::compare::halving;
-use crate::compare::outside::{self, Sort};
-use crate::compare::tally::Outcome;
+use super::halving;
+use super::outside::{self, Sort};
+use super::random::Random;
 use crate::decision::entries::ENTRIES;
-use crate::random::Random;
 use crate::sites::acts::{Act, Side};
 use crate::sites::exchange::{Exchange, Said};
 use crate::sites::notes::{Bytes, Kind, Note};
@@ -20,15 +19,22 @@ pub const EXCHANGES: usize = 2_576;
 /// A note that is brought so many acts after it was written is late.
 const LATE: usize = 40;
 
-pub const LOST: Outcome = (0, "a note is never brought");
-pub const REPEATED: Outcome = (1, "a note is brought again");
-pub const LATELY: Outcome = (2, "a note is brought late");
-pub const OVERTAKEN: Outcome = (3, "a note is overtaken");
-pub const REPLAYED: Outcome = (4, "a note is brought at common rest");
-pub const OUTDATED: Outcome = (5, "a receipt for an older minute");
-
-/// What a line does to notes.
-pub const LINE: [Outcome; 6] = [LOST, REPEATED, LATELY, OVERTAKEN, REPLAYED, OUTDATED];
+/// What a line does to a note.
+#[derive(Clone, Copy, PartialEq, Eq, Debug)]
+pub enum Fate {
+    /// It is never brought.
+    Lost,
+    /// It is brought again.
+    Repeated,
+    /// It is brought late.
+    Late,
+    /// A later one is brought before it.
+    Overtaken,
+    /// It is brought at common rest.
+    Replayed,
+    /// It is a receipt for an older minute.
+    Outdated,
+}
 
 /// A schedule as it was made.
 pub struct Schedule {
@@ -40,14 +46,16 @@ pub struct Schedule {
     pub honest: bool,
     /// Full exchanges at the end until both rest.
     pub exchanges: usize,
-    /// What happened on the line and from outside.
-    pub happened: Vec<Outcome>,
+    /// What the line did to notes.
+    pub fates: Vec<Fate>,
+    /// What was brought from outside.
+    pub outside: Vec<Sort>,
 }
 
 impl Schedule {
+    /// The program's input.
     pub fn input(&self) -> Vec<u8> {
-        let acts = self.acts.iter().flat_map(Act::bytes);
-        self.opening.bytes().into_iter().chain(acts).collect()
+        self.opening.input(&self.acts)
     }
 }
 
@@ -128,7 +136,8 @@ impl Maker<'_> {
                 exchange,
                 honest: true,
                 exchanges: 0,
-                happened: Vec::new(),
+                fates: Vec::new(),
+                outside: Vec::new(),
             },
             letters: [Vec::new(), Vec::new()],
             next: [0, 0],
@@ -244,7 +253,7 @@ impl Maker<'_> {
             true => (sort, note),
             false => (Sort::Foreign, outside::foreign(note, self.random)),
         };
-        self.schedule.happened.push(sort.outcome());
+        self.schedule.outside.push(sort);
         note
     }
 
@@ -291,27 +300,27 @@ impl Maker<'_> {
         let overtaken = letters[place..].iter().any(|later| later.brought > 0);
         let letter = &mut letters[place];
         letter.brought += 1;
-        let happened = &mut self.schedule.happened;
+        let fates = &mut self.schedule.fates;
         if letter.brought > 1 {
-            happened.push(REPEATED);
+            fates.push(Fate::Repeated);
         } else if overtaken {
-            happened.push(OVERTAKEN);
+            fates.push(Fate::Overtaken);
         }
         if now - letter.written >= LATE {
-            happened.push(LATELY);
+            fates.push(Fate::Late);
         }
         if self.schedule.exchange.both_rest() {
-            happened.push(REPLAYED);
+            fates.push(Fate::Replayed);
         }
         if is_outdated(&self.schedule.exchange, side, place) {
-            happened.push(OUTDATED);
+            fates.push(Fate::Outdated);
         }
     }
 
     fn finished(mut self) -> Schedule {
         let lost = |letter: &&Letter| letter.brought == 0;
         let lost = self.letters.iter().flatten().filter(lost).count();
-        self.schedule.happened.extend(vec![LOST; lost]);
+        self.schedule.fates.extend(vec![Fate::Lost; lost]);
         self.schedule
     }
 }

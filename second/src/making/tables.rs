@@ -1,9 +1,9 @@
 //! Tables to settle from: the start, nothing, and tables with numbers that no
 //! chain brings about.
 
+use super::random::Random;
 use crate::decision::entries::{ENTRIES, KEYS};
 use crate::decision::{passes, Request};
-use crate::random::Random;
 
 /// A table of so many places for the request; what stands past the 2,592
 /// entries, or in too few places, is any.

@@ -1,13 +1,13 @@
 //! Notes from outside: damaged, of another session, receipts for later minutes,
 //! copies, any bytes, and forged ones that a site takes for true.
 
-use crate::compare::tally::Outcome;
+use super::random::Random;
 use crate::decision::entries::{arrivals, KEYS};
-use crate::random::Random;
 use crate::sites::acts::Side;
 use crate::sites::exchange::Exchange;
 use crate::sites::notes::{Bytes, Kind, Note, LENGTH};
 
+/// What such a note is.
 #[derive(Clone, Copy, PartialEq, Eq, Debug)]
 pub enum Sort {
     Damaged,
@@ -29,19 +29,6 @@ impl Sort {
         Sort::Any,
         Sort::Forged,
     ];
-
-    pub fn outcome(self) -> Outcome {
-        let words = match self {
-            Sort::Damaged => "damaged",
-            Sort::Foreign => "of another session",
-            Sort::DamagedForeign => "damaged and of another session",
-            Sort::LaterReceipt => "a receipt for a later minute",
-            Sort::Copy => "a copy of a true note",
-            Sort::Any => "any bytes",
-            Sort::Forged => "forged",
-        };
-        (self as u32, words)
-    }
 }
 
 /// A note that is brought to this site.

@@ -2,9 +2,9 @@
 //! rewrite to two or three of the next one make thousands of steps from few
 //! certificates; identifiers that each rewrite to one other make many passes.
 
-use crate::compare::asking::{places, Question};
+use super::question::{places, Question};
+use super::random::Random;
 use crate::decision::Request;
-use crate::random::Random;
 use crate::wac::{self, Certificate, ACCESS_ONLY, MAY_DELEGATE};
 
 /// The chain's certificates so far; all end at `end` or later.

@@ -1,6 +1,6 @@
 //! Dense files: so many names of so few keys that most of them meet.
 
-use crate::random::Random;
+use super::random::Random;
 use crate::wac::{Certificate, ACCESS_ONLY, MAY_DELEGATE};
 
 /// Names of any length, every fourth certificate an authorization.

@@ -1,12 +1,12 @@
 //! Makes the openings of two sites: halves of a random file in every share, two
 //! full files, and openings that are refused.
 
-use crate::compare::{asking, long, making};
+use super::question::bend;
+use super::random::Random;
+use super::{asking, dense, files, long};
 use crate::decision::entries::mark_entry;
 use crate::decision::rules::Rule;
 use crate::decision::{reach, usable, Places, Request};
-use crate::dense;
-use crate::random::Random;
 use crate::sites::opening::Opening;
 use crate::wac::{self, file_of, Certificate, MOST};
 
@@ -125,14 +125,14 @@ pub fn refused(random: &mut Random) -> Vec<u8> {
     let mut opening = opening(random);
     match random.below(10) {
         0 => return cut_off(&opening.bytes(), random),
-        1 | 2 => asking::bend(&mut opening.request, random),
-        3..=5 => making::damage(&mut opening.files[0], random),
-        _ => making::damage(&mut opening.files[1], random),
+        1 | 2 => bend(&mut opening.request, random),
+        3..=5 => files::damage(&mut opening.files[0], random),
+        _ => files::damage(&mut opening.files[1], random),
     }
     if random.once_in(8) {
         let side = random.below(2);
-        making::damage(&mut opening.files[side], random);
-        asking::bend(&mut opening.request, random);
+        files::damage(&mut opening.files[side], random);
+        bend(&mut opening.request, random);
     }
     opening.bytes()
 }

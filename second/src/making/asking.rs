@@ -2,20 +2,12 @@
 //! nearly equal dates, certificates that are not usable, damaged files; and
 //! requests of every kind.
 
-use crate::compare::{long, making};
-use crate::decision::entries::ENTRIES;
+use super::question::{bend, places, Question};
+use super::random::Random;
+use super::{files, long};
 use crate::decision::reach::is_granted;
-use crate::decision::{rules, Places, Request, CHAIN_PLACES};
-use crate::random::Random;
+use crate::decision::{rules, Request};
 use crate::wac::{self, Certificate, ACCESS_ONLY, MAY_DELEGATE, MOST};
-
-pub struct Question {
-    pub file: Vec<u8>,
-    pub request: Request,
-    pub places: Places,
-    /// How many steps the best chain takes, where the file was made for it.
-    pub known: Option<u32>,
-}
 
 /// What the certificates of one file have in common.
 struct Style {
@@ -63,7 +55,7 @@ pub fn question(random: &mut Random) -> Question {
     let mut file = wac::file_of(&certificates);
     if random.once_in(12) {
         for _ in 0..random.within(1, 2) {
-            making::damage(&mut file, random);
+            files::damage(&mut file, random);
         }
     }
     let mut request = placed(request, &style, random);
@@ -137,45 +129,6 @@ fn granted_asker(certificates: &[Certificate], request: Request, random: &mut Ra
     match granted.collect::<Vec<usize>>().as_slice() {
         [] => request.asker,
         askers => random.one_of(askers) as u8,
-    }
-}
-
-/// One or two parts of the request go to a limit or past it.
-pub fn bend(request: &mut Request, random: &mut Random) {
-    for _ in 0..random.within(1, 2) {
-        match random.below(4) {
-            0 => request.owner = random.one_of(&[0, 15, 16, 17, 255]),
-            1 => request.asker = random.one_of(&[0, 15, 16, 17, 255]),
-            2 => request.rights = random.one_of(&[0, 0, 15, 16, 16, 17, 18, 31, 255]),
-            _ => request.at = random.one_of(&[0, 0, 1, u32::MAX]),
-        }
-    }
-}
-
-/// Mostly enough places; else one kind short, or more than needed.
-pub fn places(random: &mut Random) -> Places {
-    let mut places = Places::ENOUGH;
-    if random.once_in(3) {
-        places.minutes = random.one_of(&[ENTRIES, ENTRIES + 8]);
-        places.steps = random.one_of(&[ENTRIES, ENTRIES + 8]);
-        places.chain = random.one_of(&[CHAIN_PLACES, CHAIN_PLACES + 10]);
-    }
-    if random.once_in(20) {
-        match random.below(4) {
-            0 => places.minutes = ENTRIES - 1,
-            1 => places.steps = ENTRIES - 1,
-            2 => places.chain = CHAIN_PLACES - 1,
-            _ => places = any_places(random),
-        }
-    }
-    places
-}
-
-fn any_places(random: &mut Random) -> Places {
-    Places {
-        minutes: random.one_of(&[0, 1, ENTRIES - 1, ENTRIES]),
-        steps: random.one_of(&[0, 1, ENTRIES - 1, ENTRIES]),
-        chain: random.one_of(&[0, 1, CHAIN_PLACES - 1, CHAIN_PLACES]),
     }
 }
 
