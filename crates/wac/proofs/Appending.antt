@@ -6,7 +6,7 @@ use mathlib.Core.List.{List, [], ◌∷◌, ◌++◌, append-nil, append_assoc}
 use Prim.Native.Nat.{ℕ, ◌+◌, ◌*◌, ◌-◌, ◌<◌, ◌≤◌}
 use native.Mathlib.Omega.{arith}
 use borrow.Author.Tests.{le-ltb, ne_eqb}
-use lib.ListN.{length, get_or, take, drop, set, length-append, length-set, length-take, get_or-append}
+use lib.ListN.{length, get_or, take, set, length-append, length-set, length-take, get_or-append}
 use lib.Seq.{get_or-take, take-paste, drop-paste, length-paste, take-set-lt, get_or-set_other, get_or-drop}
 use Rattle.wac.specs.Limits.{certificates, header_bytes, record_bytes}
 use Rattle.wac.specs.Bytes.{AreBytes}

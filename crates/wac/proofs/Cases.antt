@@ -1,10 +1,10 @@
 -- Laws of a list of cases, of which the first that holds is given.
-use mathlib.Core.Path.{◌≡◌, refl, sym, ap, ◌∙◌}
+use mathlib.Core.Path.{◌≡◌, refl, sym, ap}
 use mathlib.Core.Bool.{Bool, true, false, cond}
 use mathlib.Core.List.{List, [], ◌∷◌, ◌++◌}
 use Prim.Native.Nat.{ℕ}
 use native.Mathlib.Omega.{arith}
-use Rattle.wac.specs.Answers.{Answer, gives, refuses, Case, first_of}
+use Rattle.wac.specs.Answers.{gives, refuses, Case, first_of}
 
 -- an answer that gives is no refusal
 pub gives_not_refuses : {A : Type 0} {a : A} {n : ℕ} {vs : List ℕ} → gives a ≡ refuses n vs → ⊥

@@ -1,23 +1,23 @@
 -- Laws of a record's bytes: the certificate that they hold, the table that they keep to, and the round trip.
 use mathlib.Core.Path.{◌≡◌, refl, sym, ap, ◌∙◌, subst}
 use mathlib.Core.Logic.{◌⊎◌, inl, inr, ⊎_elim, ◌↔◌}
-use mathlib.Core.Bool.{Bool, true, false, cond}
+use mathlib.Core.Bool.{Bool, true, false}
 use mathlib.Core.List.{List, [], ◌++◌, append-nil}
 use Prim.Native.Nat.{ℕ, zero, suc, ◌+◌, ◌*◌, ◌/◌, ◌%◌, ◌<◌, ◌≤◌}
 use native.Mathlib.Decide.{dec_le}
 use native.Mathlib.Nat.{add-zero, add_assoc, div-div-eq-div-mul, div-add-mod', mod-eq_of_lt, le_of_suc-le-suc, not-suc-le-zero}
 use native.Mathlib.Omega.{arith}
-use borrow.Author.Tests.{lt-ltb, le-ltb, le-leb, lt-leb, eq-eqb, ne_eqb, leb-true, eqb-true, eqb-false}
-use lib.Dec.{eqb, leb}
+use borrow.Author.Tests.{lt-ltb, le-ltb, le-leb, lt-leb, eq-eqb, leb-true, eqb-true}
+use lib.Dec.{eqb}
 use lib.ListN.{get_or, take, drop, length-take, get_or-eq_default}
 use lib.Seq.{get_or-drop, get_or-take}
-use Rattle.wac.specs.Limits.{record_bytes, without_end, unused, authorization_kind}
-use Rattle.wac.specs.Bytes.{AreBytes, word, word_bytes}
+use Rattle.wac.specs.Limits.{without_end, unused, authorization_kind}
+use Rattle.wac.specs.Bytes.{AreBytes, word}
 use Rattle.wac.specs.Ranges.{a_key, an_identifier, ◌to◌, names, authorizations, ranged, row_of, range_at, in_range, spare, byte_ok, all_below, record_ok}
 use Rattle.wac.specs.Record.{word_at, cert_from, bytes_of, IsName, IsAuthorization, IdOk, Dated, Lawful}
 use Rattle.wac.specs.declared.record.Range.{Range}
 use Rattle.wac.specs.declared.cert.Cert.{Cert}
-use Rattle.wac.proofs.Tests.{and_both, and_true, false_and, and_false, all_below_true, all_below_at}
+use Rattle.wac.proofs.Tests.{and_both, and_true, and_false, all_below_at}
 
 -- the bytes from a place on are bytes
 pub drop_bytes : (s : List ℕ) (at : ℕ) → AreBytes s → AreBytes (drop at s)

@@ -1,6 +1,5 @@
 -- The round trips: certificates written and read come back the same, and a file's bytes are those of its certificates.
 use mathlib.Core.Path.{◌≡◌, refl, sym, ap, ◌∙◌, subst}
-use mathlib.Core.Bool.{true}
 use mathlib.Core.List.{List, [], ◌∷◌, ◌++◌, append_assoc}
 use Prim.Native.Nat.{ℕ, zero, suc, ◌+◌, ◌*◌, ◌<◌, ◌≤◌}
 use native.Mathlib.Nat.{le_of_suc-le-suc, not-suc-le-zero}
@@ -8,10 +7,10 @@ use native.Mathlib.Omega.{arith}
 use borrow.Author.Tests.{eqb-true}
 use lib.ListN.{length, get_or, take, drop, take-append-drop, length-append, length-drop}
 use lib.Seq.{drop-drop, drop-append-add}
-use Rattle.wac.specs.Limits.{certificates, header_bytes, record_bytes, version}
+use Rattle.wac.specs.Limits.{certificates, header_bytes, record_bytes}
 use Rattle.wac.specs.Bytes.{AreBytes}
 use Rattle.wac.specs.Record.{cert_from, bytes_of, Lawful}
-use Rattle.wac.specs.File.{is_wac, version_of, count_of, place_of, record_at, cert_at, listed, certs_of, records_of, file_of, AllLawful, Framed, LawfulFile}
+use Rattle.wac.specs.File.{is_wac, count_of, cert_at, listed, certs_of, records_of, file_of, AllLawful, Framed, LawfulFile}
 use Rattle.wac.specs.declared.cert.Cert.{Cert}
 use Rattle.wac.proofs.Tests.{and_both}
 use Rattle.wac.proofs.RecordLaws.{drop_bytes, read_back, word_written}

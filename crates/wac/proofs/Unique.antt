@@ -1,7 +1,7 @@
 -- Two results that meet a contract are the same. Where a contract is an equation for the result there is nothing to show; these are the others.
 use mathlib.Core.Path.{◌≡◌, refl, sym, ap, ◌∙◌}
 use mathlib.Core.Bool.{cond}
-use mathlib.Core.List.{List, [], ◌∷◌}
+use mathlib.Core.List.{List}
 use Prim.Native.Nat.{ℕ}
 use denote.Ref.{Bor}
 use lib.Dec.{eqb}

@@ -5,13 +5,13 @@ use mathlib.Core.List.{List, []}
 use Prim.Native.Nat.{ℕ, ◌+◌, ◌-◌, ◌<◌, ◌≤◌}
 use native.Mathlib.Omega.{arith}
 use borrow.Author.Tests.{lt-ltb, le-ltb, ltb-false, eqb-false}
-use lib.ListN.{length, get_or, take, length-take}
+use lib.ListN.{length, take, length-take}
 use lib.Seq.{get_or-take}
 use Rattle.wac.specs.Limits.{certificates, header_bytes, record_bytes}
 use Rattle.wac.specs.Answers.{gives, refuses, first_of}
 use Rattle.wac.specs.Ranges.{record_ok}
 use Rattle.wac.specs.Record.{bytes_of}
-use Rattle.wac.specs.File.{count_of, file_cases, Framed}
+use Rattle.wac.specs.File.{count_of, file_cases}
 use Rattle.wac.specs.Writer.{cert_cases, append_cases}
 use Rattle.wac.specs.declared.cert.Cert.{Cert}
 use Rattle.wac.proofs.Cases.{first_none, first_holds, first_fails, first_passed, first_refused, first_given, first_both, gives_injective}

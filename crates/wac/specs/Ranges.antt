@@ -1,5 +1,5 @@
 -- The permitted numbers of each byte of a record, and what it is for a record to keep to them: document 01, "The certificate file", the table and its exception.
-use Rattle.std.specs.Prelude.{Bool, true, false, cond, ◌&&◌, List, [], ◌∷◌, ℕ, zero, suc, ◌+◌, ◌-◌, leb, ltb, eqb, get_or}
+use Rattle.std.specs.Prelude.{Bool, true, cond, ◌&&◌, List, [], ◌∷◌, ℕ, zero, suc, ◌+◌, ◌-◌, leb, ltb, eqb, get_or}
 use Rattle.wac.specs.Limits.{keys, identifiers, delegate, access, subject_ids, all_rights, unused, name_kind, authorization_kind}
 use Rattle.wac.specs.declared.record.Range.{Range}
 

@@ -1,5 +1,5 @@
 -- A certificate, the 18 bytes that hold it, and what a lawful certificate is: document 01, "The certificate file".
-use Rattle.std.specs.Prelude.{◌≡◌, ◌⊎◌, List, [], ◌∷◌, ◌++◌, ℕ, ◌+◌, ◌<◌, ◌≤◌, get_or}
+use Rattle.std.specs.Prelude.{◌≡◌, ◌⊎◌, List, ◌∷◌, ◌++◌, ℕ, ◌+◌, ◌<◌, ◌≤◌, get_or}
 use Rattle.wac.specs.Bytes.{word, word_bytes}
 use Rattle.wac.specs.Limits.{keys, identifiers, delegate, access, subject_ids, all_rights, unused, name_kind, authorization_kind, without_end}
 use Rattle.wac.specs.declared.cert.Cert.{Cert}

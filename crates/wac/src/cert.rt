@@ -8,11 +8,11 @@ use crate::bytes;
 use crate::limits::Table;
 
 // The three identifier bytes of a subject.
-#[derive(Drop)]
+#[derive(Clone, Copy)]
 pub struct Ids(pub u8, pub u8, pub u8);
 
 // A certificate, as a record's bytes hold it.
-#[derive(Drop)]
+#[derive(Clone, Copy)]
 pub struct Cert {
     pub kind: u8,
     pub issuer: u8,

@@ -17,7 +17,7 @@ use crate::refusal::Refusal;
 use crate::{bytes, record};
 
 // What a file's frame says, its header and its length.
-#[derive(Drop)]
+#[derive(Clone, Copy)]
 pub enum Frame {
     // The frame is in order, with its count. The records are not looked at.
     Count(usize),
@@ -26,7 +26,7 @@ pub enum Frame {
 }
 
 // What a check of a file finds.
-#[derive(Drop)]
+#[derive(Clone, Copy)]
 pub enum Checked {
     // The file is accepted, with its count.
     Accepted(usize),

@@ -2,6 +2,8 @@
 //
 // Any bytes and any numbers may be passed. What is refused is refused by its number, and a refused
 // call leaves everything lent as it was.
+#![tactic(auto)]
+
 mod bytes;
 mod cert;
 mod file;

@@ -6,7 +6,7 @@ ghost use Rattle.wac.specs.Ranges.{range_at, row_of, in_range, spare, byte_ok, r
 use crate::limits::Table;
 
 // The least and the greatest number that a byte may have.
-#[derive(Drop)]
+#[derive(Clone, Copy)]
 pub struct Range {
     pub least: u8,
     pub greatest: u8,

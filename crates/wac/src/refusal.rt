@@ -3,7 +3,7 @@ ghost use Rattle.std.specs.Prelude.{◌≡◌};
 ghost use Rattle.wac.specs.Answers.{number_of, record_of};
 
 // A refusal; `number_of` gives its number.
-#[derive(Drop)]
+#[derive(Clone, Copy)]
 pub enum Refusal {
     // The file is under 6 bytes.
     Short,

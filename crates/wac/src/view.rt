@@ -14,7 +14,7 @@ use crate::{cert, file, record};
 
 // What reading one record alone finds. The other records are not looked at, so a certificate here
 // does not say that the file is accepted.
-#[derive(Drop)]
+#[derive(Clone, Copy)]
 pub enum Alone {
     // The record's certificate.
     Certificate(Cert),
@@ -51,7 +51,7 @@ pub fn record_alone(file: &[u8], n: usize) -> Alone
 }
 
 // What fetching a certificate by its number finds.
-#[derive(Drop)]
+#[derive(Clone, Copy)]
 pub enum Fetched {
     // The certificate.
     Certificate(Cert),
@@ -75,7 +75,7 @@ fn fetch_kept(file: &[u8], kept: Checked, n: usize) -> Fetched
 }
 
 // A small view of a file: the lent file, and what `check` found of it.
-#[derive(Drop)]
+#[derive(Clone, Copy)]
 pub struct View<'a> {
     file: &'a [u8],
     kept: Checked,

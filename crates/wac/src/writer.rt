@@ -13,7 +13,7 @@ use crate::refusal::Refusal;
 use crate::{cert, file, record};
 
 // What appending answers.
-#[derive(Drop)]
+#[derive(Clone, Copy)]
 pub enum Appended {
     // The certificate is written: the new used length.
     Used(usize),
