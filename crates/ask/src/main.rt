@@ -3,6 +3,8 @@
 // The buffer is longer than any lawful question. A longer input is cut to it: the file's length is
 // then wrong all the same, and the numbers below 14 depend on the file's first bytes alone. A read
 // that fails is no question, and gets no line.
+#![tactic(auto)]
+
 fn main() {
     let mut question = io::buffer();
     let input = lines::read_input(&mut question);

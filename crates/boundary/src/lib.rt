@@ -3,6 +3,8 @@
 //
 // An answer is one number: a refusal's number times 65,536 and the value that comes with it. The
 // number is 0 where the call is not refused. The decision's verdicts are wider: see `questions`.
+#![tactic(auto)]
+
 mod questions;
 
 ghost use Rattle.std.specs.Prelude.{◌≡◌, ◌++◌, ◌≤◌, length, drop};

@@ -1,6 +1,8 @@
 // Answers the questions on standard input, each after its length in 2 bytes, high byte first, by one
 // line each on standard output. A question that is cut off gets no line, and ends the run; so does a
 // read or a write that fails.
+#![tactic(auto)]
+
 ghost use Rattle.std.specs.Prelude.{◌<◌};
 
 // The number that two bytes make, high byte first.

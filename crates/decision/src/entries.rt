@@ -9,7 +9,7 @@ use crate::lens::Lens;
 use wac::Table;
 
 // Places from the first on, up to the one past the last.
-#[derive(Drop)]
+#[derive(Clone, Copy)]
 pub struct Arrivals {
     pub first: usize,
     pub past: usize,

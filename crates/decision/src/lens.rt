@@ -7,7 +7,7 @@ use crate::request::Request;
 use wac::{Cert, Table};
 
 // By what certificates are seen: their minutes; or their steps, those that end at or after a minute.
-#[derive(Drop)]
+#[derive(Clone, Copy)]
 pub enum Lens {
     Minutes,
     Steps(u32),

@@ -2,6 +2,8 @@
 //
 // Any bytes and any numbers may be passed. What is refused is refused by its number, and a refused
 // call leaves every lent place as it was.
+#![tactic(auto)]
+
 mod entries;
 mod lens;
 mod passing;

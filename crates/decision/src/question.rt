@@ -26,7 +26,7 @@ use crate::{entries, passing, writing};
 use wac::{Checked, Refusal, Table};
 
 // Why a question is refused.
-#[derive(Drop)]
+#[derive(Clone, Copy)]
 pub enum Refused {
     // The file: 10 to 15.
     File(Refusal),
@@ -41,7 +41,7 @@ pub enum Refused {
 }
 
 // What a question answers.
-#[derive(Drop)]
+#[derive(Clone, Copy)]
 pub enum Verdict {
     // Granted, and a shortest best chain has at most 200 steps: minute, steps, passes.
     Granted(u32, u32, u64),
@@ -54,7 +54,7 @@ pub enum Verdict {
 }
 
 // Whether a file and a request are in order: the file's count, or the refusal.
-#[derive(Drop)]
+#[derive(Clone, Copy)]
 pub enum Admitted {
     Count(usize),
     Refused(Refused),
@@ -218,7 +218,7 @@ pub fn ask_short(
 }
 
 // What the read screen shows; a refusal's number alone.
-#[derive(Drop)]
+#[derive(Clone, Copy)]
 pub enum Shown {
     Yes,
     No,
@@ -242,14 +242,14 @@ pub fn may(file: &[u8], owner: u8, asker: u8, at: u32) -> Shown
 }
 
 // Whether the stock list is given; a refusal's number alone.
-#[derive(Drop)]
+#[derive(Clone, Copy)]
 pub enum Stocked {
     Given,
     Refused(u8),
 }
 
 // The stock list: a yes or no for each of the 16 keys, all no where it is refused.
-#[derive(Drop)]
+#[derive(Clone, Copy)]
 pub struct StockList {
     pub answer: Stocked,
     pub keys: [bool; Table::KEYS],
@@ -282,7 +282,7 @@ pub fn stock(file: &[u8], owner: u8, at: u32) -> StockList
 }
 
 // What settling a given table answers: the number of passes, or the refusal.
-#[derive(Drop)]
+#[derive(Clone, Copy)]
 pub enum Settling {
     Passes(u64),
     Refused(Refused),

@@ -5,7 +5,7 @@ ghost use Rattle.decision.specs.Usable.{includes, in_force, usable};
 use wac::{Cert, Table};
 
 // What is asked: may the asker use these rights of the owner's at this minute?
-#[derive(Drop)]
+#[derive(Clone, Copy)]
 pub struct Request {
     pub owner: u8,
     pub asker: u8,

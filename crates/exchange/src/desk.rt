@@ -23,7 +23,7 @@ use sites::{Note, Sending, Site, Taken};
 use wac::Table;
 
 // The two sites, and how many notes of each are kept.
-#[derive(Drop)]
+#[derive(Clone, Copy)]
 pub struct Desk {
     pub first: Site,
     pub second: Site,
@@ -32,7 +32,7 @@ pub struct Desk {
 }
 
 // The two sites after an act, and what is told of it.
-#[derive(Drop)]
+#[derive(Clone, Copy)]
 pub struct Done {
     pub desk: Desk,
     pub outcome: Outcome,
@@ -94,7 +94,7 @@ pub fn writes(desk: Desk, from: usize, notes: &mut [u8]) -> Done
 }
 
 // A note that was brought to a site: what became of it, the site after it, and its receipt.
-#[derive(Drop)]
+#[derive(Clone, Copy)]
 pub struct Delivery {
     pub answer: Taken,
     pub site: Site,
@@ -191,7 +191,7 @@ fn exchanges_note(desk: Desk, note: [u8; Note::BYTES], first: &mut [u8], second:
 }
 
 // The two sites after a note was exchanged, and the entry from which the next is looked for.
-#[derive(Drop)]
+#[derive(Clone, Copy)]
 pub struct Sent {
     pub desk: Desk,
     pub next: usize,

@@ -11,6 +11,8 @@
 //   8, 9    with 12 bytes: that note is brought to A, to B
 //
 // After each act one line says what both sites show, and what became of the act.
+#![tactic(auto)]
+
 mod desk;
 mod mail;
 
@@ -31,7 +33,7 @@ fn half_of(high: u8, low: u8) -> usize
 }
 
 // A number of 2 bytes from standard input, and whether it was there.
-#[derive(Drop)]
+#[derive(Clone, Copy)]
 struct Number {
     whole: bool,
     value: usize,
@@ -73,7 +75,7 @@ fn read_file(file: &mut [u8]) -> Number
 }
 
 // What comes of an act, or that it does not stand there whole.
-#[derive(Drop)]
+#[derive(Clone, Copy)]
 struct Turn {
     done: Done,
     ended: bool,

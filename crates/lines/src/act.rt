@@ -9,7 +9,7 @@ use decision::Refused;
 use sites::{Site, Taken};
 
 // What became of an act.
-#[derive(Drop)]
+#[derive(Clone, Copy)]
 pub enum Outcome {
     // The sites show it.
     Quiet,
@@ -82,7 +82,7 @@ pub fn act_line(a: Site, b: Site, outcome: Outcome, out: &mut [u8]) -> Lined
 }
 
 // Why two sites were not opened.
-#[derive(Drop)]
+#[derive(Clone, Copy)]
 pub enum Unopened {
     // The input ends before the acts: 9.
     CutShort,

@@ -2,7 +2,7 @@
 ghost use Rattle.io.specs.Counts.{IsPrefixLen};
 
 // How many bytes were read, and whether a read failed.
-#[derive(Drop)]
+#[derive(Clone, Copy)]
 pub struct Input {
     pub count: usize,
     pub failed: bool,

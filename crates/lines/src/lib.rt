@@ -1,5 +1,7 @@
 // What the programs read and print. Each line is a value: a function writes it to the front of lent
 // bytes and gives its length.
+#![tactic(auto)]
+
 mod act;
 mod input;
 mod printing;

@@ -5,7 +5,7 @@ ghost use Rattle.lines.specs.Question.{length_of, Prints};
 use crate::question::{Line, Lined, least, question_line};
 
 // The length of the line that was handed over to be written, and whether all of it was.
-#[derive(Drop)]
+#[derive(Clone, Copy)]
 pub struct Printed {
     pub length: usize,
     pub whole: bool,

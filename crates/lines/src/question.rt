@@ -18,7 +18,7 @@ use decision::Verdict;
 use wac::Table;
 
 // The numbers of a line are associated constants.
-#[derive(Drop)]
+#[derive(Clone, Copy)]
 pub struct Line {}
 
 impl Line {
@@ -33,7 +33,7 @@ impl Line {
 }
 
 // What writing a line answers.
-#[derive(Drop)]
+#[derive(Clone, Copy)]
 pub enum Lined {
     // The line's length.
     Length(usize),

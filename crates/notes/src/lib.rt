@@ -1,1 +1,3 @@
 // The crate has no code: specs/ holds the note rules on tables, proofs/ what follows from them.
+#![tactic(auto)]
+

@@ -3,6 +3,8 @@
 // A site is a value: each function takes it and gives the site that comes of it. Any value of it and
 // any bytes may be passed. A refused call gives the site back as it was, and leaves everything lent as
 // it was.
+#![tactic(auto)]
+
 mod entry;
 mod note;
 mod site;

@@ -7,7 +7,7 @@ ghost use Rattle.sites.specs.Notes.{note_length, note_from, note_bytes, formed, 
 use wac::Table;
 
 // A note, as its bytes say it.
-#[derive(Drop)]
+#[derive(Clone, Copy)]
 pub struct Note {
     pub session: u32,
     pub kind: u8,

@@ -32,7 +32,7 @@ use decision::{Admitted, Refused, Request, Settling};
 use wac::Table;
 
 // A site.
-#[derive(Drop)]
+#[derive(Clone, Copy)]
 pub struct Site {
     // The bytes of its file, and how many of them there are.
     file: [u8; Table::LARGEST],
@@ -48,14 +48,14 @@ pub struct Site {
 }
 
 // Whether a site was opened.
-#[derive(Drop)]
+#[derive(Clone, Copy)]
 pub enum Opened {
     Ready,
     Refused(Refused),
 }
 
 // An opening: the answer, and the site, blank where it is refused.
-#[derive(Drop)]
+#[derive(Clone, Copy)]
 pub struct Opening {
     pub answer: Opened,
     pub site: Site,
@@ -177,7 +177,7 @@ pub fn work(site: Site) -> Site
 }
 
 // Why a note is refused.
-#[derive(Drop)]
+#[derive(Clone, Copy)]
 pub enum NoteRefused {
     // Under 12 lent bytes.
     Room,
@@ -202,7 +202,7 @@ pub fn note_refusal_number(why: NoteRefused) -> u8
 }
 
 // What became of a note.
-#[derive(Drop)]
+#[derive(Clone, Copy)]
 pub enum Taken {
     // It was a raise, and its receipt is written.
     Raise,
@@ -213,7 +213,7 @@ pub enum Taken {
 }
 
 // A note taken: the answer, and the site after it.
-#[derive(Drop)]
+#[derive(Clone, Copy)]
 pub struct Taking {
     pub answer: Taken,
     pub site: Site,
@@ -322,7 +322,7 @@ fn receipt_of(raise: Note) -> Note
 }
 
 // What a site has to send.
-#[derive(Drop)]
+#[derive(Clone, Copy)]
 pub enum Sending {
     // The note of this entry is written.
     Note(usize),
@@ -389,7 +389,7 @@ pub fn rests(site: Site) -> bool
 }
 
 // What a site shows.
-#[derive(Drop)]
+#[derive(Clone, Copy)]
 pub struct Showing {
     pub minute: u32,
     pub granted: bool,

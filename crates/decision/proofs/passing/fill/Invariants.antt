@@ -1,0 +1,17 @@
+-- `fill` meets its contract. The loop's invariant: the places passed hold the weight, and the others what they held. The measure is what is left.
+use mathlib.Core.List.{◌++◌}
+use mathlib.Core.Path.{◌≡◌, refl, ap, ◌∙◌}
+use Prim.Native.Nat.{◌≤◌, ◌-◌}
+use native.Mathlib.Omega.{arith}
+use borrow.Author.Fill.{fill_more}
+use borrow.Author.Rules.{rules}
+use lib.ListN.{length, length-set, take, drop, set, replicate, length-replicate}
+use lib.Seq.{take_at, drop_at}
+use Rattle.wac.specs.Limits.{entries}
+use Rattle.decision.proofs.passing.fill.Given as goal
+
+abbrev pub invariant-loop-e : goal.invariant-loop-e
+invariant-loop-e l = (l.e ≤ entries) × (length l.table ≡ length l.initial.table) × (l.table ≡ replicate l.e l.weight ++ drop l.e l.initial.table)
+
+abbrev pub decreases-loop-e : goal.decreases-loop-e
+decreases-loop-e l = entries - l.e

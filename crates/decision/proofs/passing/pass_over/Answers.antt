@@ -1,0 +1,43 @@
+use mathlib.Core.Logic.{⊎_elim}
+use mathlib.Core.Path.{sym, subst, ◌∙◌}
+use Prim.Native.Nat.{◌+◌, ◌≤◌, ◌<◌, ◌-◌}
+use native.Mathlib.Omega.{arith}
+use borrow.Author.Rules.{rules}
+use Rattle.wac.specs.File.{count_of}
+use Rattle.decision.proofs.FetchLaws.{fetched_lawful, fetched_same, fetched_refused}
+use Rattle.decision.proofs.PassingLaws.{Passing, passing_none, passing_live, passing_dead, passed}
+use Rattle.decision.proofs.passing.pass_over.Goals as goal
+
+pub loop-i-init : goal.loop-i-init
+loop-i-init c = let p = c.requires in (search rules, passing_none _ _ _ _ _ p.4 p.5)
+
+pub try_cert-requires : goal.try_cert-requires
+try_cert-requires c =
+    (c.requires.3, c.loop-i.invariant.1.within, fetched_lawful c.record_alone-found.ensures c.in-Certificate.is)
+
+pub loop-i-preserved : goal.loop-i-preserved
+loop-i-preserved c =
+    let a = c.args in
+    let p = c.requires in
+    let h = c.loop-i in
+    let from = c.record_alone-found.ensures in
+    let below : h.i < count_of a.file.now = omega arith in (
+      omega arith,
+      ⊎_elim
+          (λ w. subst (λ l. Passing a.lens a.file.now a.request a.old.now a.new.now l (h.i + 1)) (sym w.9)
+          (passing_live h.invariant.1 (fetched_same from p.0 below w.1.given.1) (sym w.3.ensures ∙ w.4.taken) p.3 (fetched_lawful from w.1.given.1) w.6.ensures))
+          (λ v. ⊎_elim
+          (λ w. subst (λ l. Passing a.lens a.file.now a.request a.old.now a.new.now l (h.i + 1)) (sym w.5)
+          (passing_dead h.invariant.1 (fetched_same from p.0 below w.1.given.1) (sym w.3.ensures ∙ w.4.left)))
+          (λ w. absurd (fetched_refused from p.0 below w.1.given.1))
+          v)
+          c.match-found.branch,
+    )
+
+pub shape_of-new : goal.shape_of-new
+shape_of-new c = c.loop-i.invariant.1.long
+
+pub returns : goal.returns
+returns c =
+    let p = c.requires in
+    passed c.loop-i.invariant.1 (omega arith)

@@ -1,0 +1,31 @@
+-- `try_at` meets its contract: one store at the entry's number.
+use borrow.Author.Rules.{rules}
+use Rattle.decision.specs.Engine.{held}
+use Rattle.decision.specs.Lens.{weighing_of, weight_by, question_by}
+use Rattle.decision.specs.Table.{number}
+use Rattle.decision.specs.Usable.{symbols_of}
+use Rattle.rewriting.specs.Passes.{reading}
+use Rattle.rewriting.proofs.Held.{reading_fits}
+use Rattle.decision.proofs.PassingLaws.{weight_fits, stored}
+use Rattle.decision.proofs.TableLaws.{list_held}
+use Rattle.decision.proofs.passing.try_at.Goals as goal
+
+pub joined-offer-requires : goal.joined-offer-requires
+joined-offer-requires c =
+    let a = c.args in
+    let p = c.requires in (
+      rw c.weight_of.ensures (weight_fits a.lens a.cert p.2),
+      rw c.read_side-read.ensures (reading_fits (question_by a.lens 0) (held a.lens a.old.now) (list_held a.lens 0 a.old.now p.0) _ _ _),
+    )
+
+pub returns : goal.returns
+returns c =
+    let a = c.args in
+    let at = c.number_of_lem in
+    let read = c.read_side-read in
+    let weight = c.weight_of in
+    let offer = c.joined-offer in
+    stored (weighing_of a.lens) a.new.now at.result (number a.cert.issuer a.cert.left a.place) c.better.result
+    weight.result (weight_by a.lens a.cert)
+    read.result (reading (question_by a.lens 0) (held a.lens a.old.now) a.cert.subject (symbols_of a.cert) a.place)
+    offer.result at.ensures.0 weight.ensures read.ensures offer.ensures c.better.ensures

@@ -1,0 +1,72 @@
+use Prim.Native.Nat.{ℕ, ◌+◌, ◌-◌, ◌<◌, ◌≤◌}
+use native.Mathlib.Omega.{arith}
+use borrow.Author.Count.{below_none, below_more}
+use Rattle.wac.specs.Limits.{end_place}
+use Rattle.decision.proofs.ReadingLaws.{symbols_few}
+use Rattle.decision.proofs.WritingLaws.{Goes, at_fits, read_fits, place_sum, place_other, place_last}
+use Rattle.decision.proofs.writing.find_place.Goals as goal
+
+pub symbol_at-symbol-requires : goal.symbol_at-symbol-requires
+symbol_at-symbol-requires c = (c.requires.0.subject, c.requires.1)
+
+pub read_from-whole-requires : goal.read_from-whole-requires
+read_from-whole-requires c =
+    let onward = c.requires.0 in
+    (onward.within, onward.subject, onward.symbols)
+
+pub loop-place-init : goal.loop-place-init
+loop-place-init c = (omega arith, below_none _)
+
+pub weight_at-first-requires : goal.weight_at-first-requires
+weight_at-first-requires c = c.requires.0.within.long
+
+pub overflow_add-j : goal.overflow_add-j
+overflow_add-j c = omega (arith, symbols_few c.args.cert)
+
+pub read_from-rest-requires : goal.read_from-rest-requires
+read_from-rest-requires c =
+    let onward = c.requires.0 in
+    (onward.within, onward.subject, omega arith)
+
+pub overflow_add-first : goal.overflow_add-first
+overflow_add-first c =
+    let head = c.before.before.before in
+    let start = head.before.before.before.before in
+    let a = start.args in
+    omega (
+      arith,
+      c.weight_at-first.ensures,
+      at_fits a.floor a.table.now a.from head.before.before.symbol-at.result head.loop.place start.requires.0.within,
+      c.read_from-rest.ensures,
+      read_fits a.floor a.table.now a.cert (a.j + 1) head.loop.place a.to,
+    )
+
+pub returns-then-first-rest : goal.returns-then-first-rest
+returns-then-first-rest c =
+    let head = c.before.before.before.before in
+    let goes =
+    place_sum head.before.before.before.before.args.floor _ _ _ _ _ _
+    head.before.before.symbol-at.ensures
+    head.before.read-from.ensures
+    c.weight_at-first.ensures
+    c.read_from-rest.ensures
+    c.if-first-rest.true in
+    (omega arith, goes)
+
+pub loop-place-preserved : goal.loop-place-preserved
+loop-place-preserved c =
+    let head = c.before.before.before.before in
+    let other =
+    place_other head.before.before.before.before.args.floor _ _ _ _ _ _
+    head.before.before.symbol-at.ensures
+    head.before.read-from.ensures
+    c.weight_at-first.ensures
+    c.read_from-rest.ensures
+    c.if-first-rest.false in
+    (omega arith, below_more _ _ head.loop.invariant.1 other)
+
+pub returns : goal.returns
+returns c =
+    let pre = c.requires in
+    let inv = c.loop-place.invariant in
+    (inv.0, place_last c.args.floor _ _ _ _ _ _ pre.1 pre.0.short c.loop-place-test.false inv.0 inv.1)
