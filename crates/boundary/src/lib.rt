@@ -42,16 +42,14 @@ fn checked_code(found: Checked) -> u32
 }
 
 // `wac::check`: the count, or 10 to 15.
-#[unsafe(no_mangle)]
-pub extern "C" fn wac_check(file: &[u8]) -> u32
+pub fn wac_check(file: &[u8]) -> u32
     ensures { result ≡ coded (first_of (file_cases file.now) (count_of file.now)) }
 {
     checked_code(wac::check(file))
 }
 
 // What a view of the file counts, which is what its check finds: the count, or 10 to 15.
-#[unsafe(no_mangle)]
-pub extern "C" fn wac_count(file: &[u8]) -> u32
+pub fn wac_count(file: &[u8]) -> u32
     ensures { result ≡ coded (first_of (file_cases file.now) (count_of file.now)) }
 {
     wac_check(file)
@@ -79,8 +77,7 @@ fn fill(lent: &mut [u32], cert: Cert)
 
 // `wac::fetch_in`: certificate n, its fields in the first 12 lent places; or 10 to 15 as `wac_check`,
 // 23 where under 12 places are lent, 24. A refused call writes nothing.
-#[unsafe(no_mangle)]
-pub extern "C" fn wac_fetch(file: &[u8], n: usize, lent: &mut [u32]) -> u32
+pub fn wac_fetch(file: &[u8], n: usize, lent: &mut [u32]) -> u32
     ensures { FetchCoded file.now n lent.old result lent.new }
 {
     if let Checked::Refused(why) = wac::check(file) {
@@ -100,8 +97,7 @@ pub extern "C" fn wac_fetch(file: &[u8], n: usize, lent: &mut [u32]) -> u32
 }
 
 // `wac::append`: the new used length, or 16, 10 to 15, 13, 15, 16. A refused call writes nothing.
-#[unsafe(no_mangle)]
-pub extern "C" fn wac_append(
+pub fn wac_append(
     buffer: &mut [u8],
     used: usize,
     kind: u8,

@@ -118,8 +118,7 @@ fn settling_code(settling: Settling) -> u64
 
 // `decision::ask`: number × 2^56 + steps × 2^48 + passes × 2^32 + minute. With 15 the record stands
 // in the minute's place. A refused call writes nothing.
-#[unsafe(no_mangle)]
-pub extern "C" fn decision_ask(
+pub fn decision_ask(
     file: &[u8],
     owner: u8,
     asker: u8,
@@ -135,8 +134,7 @@ pub extern "C" fn decision_ask(
 }
 
 // `decision::ask_short`: the same for rights 2.
-#[unsafe(no_mangle)]
-pub extern "C" fn decision_short(
+pub fn decision_short(
     file: &[u8],
     owner: u8,
     asker: u8,
@@ -151,24 +149,21 @@ pub extern "C" fn decision_short(
 }
 
 // `decision::may`: 1 for yes, 0 for no, or number × 65,536.
-#[unsafe(no_mangle)]
-pub extern "C" fn decision_may(file: &[u8], owner: u8, asker: u8, at: u32) -> u32
+pub fn decision_may(file: &[u8], owner: u8, asker: u8, at: u32) -> u32
     ensures { MayCoded file.now (request_of owner asker 2 at) result }
 {
     shown_code(decision::may(file, owner, asker, at))
 }
 
 // `decision::stock`: the sum of 2^k over the keys k that get yes, or number × 65,536.
-#[unsafe(no_mangle)]
-pub extern "C" fn decision_stock(file: &[u8], owner: u8, at: u32) -> u32
+pub fn decision_stock(file: &[u8], owner: u8, at: u32) -> u32
     ensures { StockCoded file.now owner at result }
 {
     stocked_code(decision::stock(file, owner, at))
 }
 
 // `decision::settle`: the passes, or number × 2^56 + record. A refused call writes nothing.
-#[unsafe(no_mangle)]
-pub extern "C" fn decision_settle(
+pub fn decision_settle(
     file: &[u8],
     owner: u8,
     asker: u8,

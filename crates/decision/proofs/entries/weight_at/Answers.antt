@@ -9,13 +9,13 @@ use Rattle.decision.proofs.entries.weight_at.Goals as goal
 
 pub returns-then-not-is_entry : goal.returns-then-not-is_entry
 unfolding table_of
-returns-then-not-is_entry c = c.none_of.ensures ∙ sym (when_false _ _ _ (sym c.is_entry_lem.ensures ∙ not-true _ c.if-not-is_entry.true))
+returns-then-not-is_entry c = c.none_of.ensures ∙ sym (when_false _ _ _ (sym c.is_entry.ensures ∙ c.if-not-is_entry.true))
 
 pub number_of-requires : goal.number_of-requires
-number_of-requires c = sym c.is_entry_lem.ensures ∙ not-false _ c.if-not-is_entry.false
+number_of-requires c = sym c.is_entry.ensures ∙ c.if-not-is_entry.false
 
 pub returns : goal.returns
 unfolding table_of
 returns c =
-    ap (λ e. get_or c.args.table.now e 0) c.number_of_lem.ensures.0
-    ∙ sym (when_true _ _ _ (sym c.is_entry_lem.ensures ∙ not-false _ c.if-not-is_entry.false))
+    ap (λ e. get_or c.args.table.now e 0) c.number_of.ensures.0
+    ∙ sym (when_true _ _ _ (sym c.is_entry.ensures ∙ c.if-not-is_entry.false))

@@ -19,12 +19,12 @@ dead (Steps floor) q c e = sym (false_and _ _ e)
 
 pub returns-then-not-is_usable : goal.returns-then-not-is_usable
 returns-then-not-is_usable c =
-    dead c.args.lens _ _ (sym c.is_usable.ensures ∙ not-true _ c.if-not-is_usable.true)
+    dead c.args.lens _ _ (sym c.is_usable.ensures ∙ c.if-not-is_usable.true)
 
 pub returns-in-Minutes : goal.returns-in-Minutes
-returns-in-Minutes c = rw c.in-Minutes.is (sym (sym c.is_usable.ensures ∙ not-false _ c.if-not-is_usable.false))
+returns-in-Minutes c = rw c.in-Minutes.is (sym (sym c.is_usable.ensures ∙ c.if-not-is_usable.false))
 
 pub returns-in-Steps : goal.returns-in-Steps
 returns-in-Steps c =
     rw c.in-Steps.is
-    (sym (and_true _ _ (sym c.is_usable.ensures ∙ not-false _ c.if-not-is_usable.false)))
+    (sym (and_true _ _ (sym c.is_usable.ensures ∙ c.if-not-is_usable.false)))

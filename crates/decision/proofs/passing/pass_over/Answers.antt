@@ -7,6 +7,7 @@ use Rattle.wac.specs.File.{count_of}
 use Rattle.decision.proofs.FetchLaws.{fetched_lawful, fetched_same, fetched_refused}
 use Rattle.decision.proofs.PassingLaws.{Passing, passing_none, passing_live, passing_dead, passed}
 use Rattle.decision.proofs.passing.pass_over.Goals as goal
+use Rattle.decision.proofs.passing.pass_over.Goals.{in-Certificate+then-is_live, in-Certificate+else-is_live, in-Refused}
 
 pub loop-i-init : goal.loop-i-init
 loop-i-init c = let p = c.requires in (search rules, passing_none _ _ _ _ _ p.4 p.5)
@@ -23,15 +24,14 @@ loop-i-preserved c =
     let from = c.record_alone-found.ensures in
     let below : h.i < count_of a.file.now = omega arith in (
       omega arith,
-      ⊎_elim
-          (λ w. subst (λ l. Passing a.lens a.file.now a.request a.old.now a.new.now l (h.i + 1)) (sym w.9)
-          (passing_live h.invariant.1 (fetched_same from p.0 below w.1.given.1) (sym w.3.ensures ∙ w.4.taken) p.3 (fetched_lawful from w.1.given.1) w.6.ensures))
-          (λ v. ⊎_elim
-          (λ w. subst (λ l. Passing a.lens a.file.now a.request a.old.now a.new.now l (h.i + 1)) (sym w.5)
-          (passing_dead h.invariant.1 (fetched_same from p.0 below w.1.given.1) (sym w.3.ensures ∙ w.4.left)))
-          (λ w. absurd (fetched_refused from p.0 below w.1.given.1))
-          v)
-          c.match-found.branch,
+      elim c.match-found.branch [
+        in-Certificate+then-is_live w ↦
+            subst (λ l. Passing a.lens a.file.now a.request a.old.now a.new.now l (h.i + 1)) (sym w.new-is)
+            (passing_live h.invariant.1 (fetched_same from p.0 below w.in-Certificate.is) (sym w.is_live.ensures ∙ w.if-is_live.true) p.3 (fetched_lawful from w.in-Certificate.is) w.try_cert.ensures)
+      | in-Certificate+else-is_live w ↦
+            subst (λ l. Passing a.lens a.file.now a.request a.old.now a.new.now l (h.i + 1)) (sym w.new-is)
+            (passing_dead h.invariant.1 (fetched_same from p.0 below w.in-Certificate.is) (sym w.is_live.ensures ∙ w.if-is_live.false))
+      | in-Refused w ↦ absurd (fetched_refused from p.0 below w.in-Refused.is) ],
     )
 
 pub shape_of-new : goal.shape_of-new

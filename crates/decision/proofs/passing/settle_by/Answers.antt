@@ -15,7 +15,7 @@ pub loop-lens-init : goal.loop-lens-init
 loop-lens-init c =
     let a = c.args in
     let p = c.requires in
-    let bytes : AreBytes a.file.now = λ i. omega (arith, c.shared_slice_known-1.given i) in
+    let bytes : AreBytes a.file.now = λ i. (c.type_inv.file i).fits in
     (length-replicate {A = ℕ} entries 0, going_none _ _ _ _ (rules_lawful a.lens a.file.now a.request bytes p.0 p.2) p.3)
 
 pub copy_table-requires : goal.copy_table-requires
@@ -28,7 +28,7 @@ pass_over-requires c =
     let h = c.loop-lens in
     let y = c.copy_table in
     let within = h.invariant.1.within in
-    (p.0, p.1, omega (arith, y.auto.1.0, h.invariant.0), subst (Within a.lens) (sym y.ensures) (within_take a.lens h.table within), within, sym y.ensures)
+    (p.0, p.1, omega (arith, y.auto.to, h.invariant.0), subst (Within a.lens) (sym y.ensures) (within_take a.lens h.table within), within, sym y.ensures)
 
 pub overflow_add-passes : goal.overflow_add-passes
 overflow_add-passes c = omega (arith, going_few c.loop-lens.invariant.1)
@@ -38,7 +38,7 @@ same_table-requires c =
     let h = c.loop-lens in
     let y = c.copy_table in
     let r = c.pass_over in
-    (omega (arith, y.auto.1.0, h.invariant.0), omega (arith, r.ensures.long, h.invariant.1.within.long))
+    (omega (arith, y.auto.to, h.invariant.0), omega (arith, r.ensures.long, h.invariant.1.within.long))
 
 pub shape_of-table-then-same_table : goal.shape_of-table-then-same_table
 shape_of-table-then-same_table c = c.pass_over.ensures.long ∙ c.loop-lens.invariant.1.long
@@ -57,6 +57,6 @@ pub loop-lens-preserved : goal.loop-lens-preserved
 loop-lens-preserved c =
     let h = c.loop-lens in
     let y = c.copy_table in (
-      omega (arith, y.auto.1.0, h.invariant.0),
+      omega (arith, y.auto.to, h.invariant.0),
       going_more h.invariant.1 y.ensures c.pass_over.ensures c.same_table.ensures c.if-same_table.false,
     )

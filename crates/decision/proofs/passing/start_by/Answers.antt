@@ -14,14 +14,14 @@ pub number_of-requires-2 : goal.number_of-requires-2
 number_of-requires-2 c = asker_entry _ 11 c.requires.0 (inr refl)
 
 pub bounds-table-number_of-2 : goal.bounds-table-number_of-2
-bounds-table-number_of-2 c = simp length-set (omega (arith, c.fill.auto.0, c.requires.1, c.number_of-2.ensures.1))
+bounds-table-number_of-2 c = simp length-set (omega (arith, c.fill.auto.table, c.requires.1, c.number_of-2.ensures.1))
 
 pub returns : goal.returns
 returns c =
     let a = c.args in
     let f = c.fill in
     let none = c.none_of.ensures in
-    let both = started a.lens a.asker c.requires.0 f.new.0 (omega (arith, f.auto.0, c.requires.1)) (rw none at f.ensures.0)
-    c.number_of_lem.result c.number_of-2.result c.whole_of-whole.result
-    c.number_of_lem.ensures.0 c.number_of-2.ensures.0 c.whole_of-whole.ensures in
+    let both = started a.lens a.asker c.requires.0 f.new.table (omega (arith, f.auto.table, c.requires.1)) (rw none at f.ensures.0)
+    c.number_of.result c.number_of-2.result c.whole_of-whole.result
+    c.number_of.ensures.0 c.number_of-2.ensures.0 c.whole_of-whole.ensures in
     (both.0, both.1 ∙ f.ensures.1)

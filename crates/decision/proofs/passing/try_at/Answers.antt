@@ -21,7 +21,7 @@ joined-offer-requires c =
 pub returns : goal.returns
 returns c =
     let a = c.args in
-    let at = c.number_of_lem in
+    let at = c.number_of-e in
     let read = c.read_side-read in
     let weight = c.weight_of in
     let offer = c.joined-offer in

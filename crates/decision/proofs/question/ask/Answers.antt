@@ -57,6 +57,6 @@ returns-else-chain-lt-CHAIN_PLACES c =
     answered
     (ask_given args.file.now _ (length args.minutes.now) (length args.steps.now) (length args.chain.now) given minutes-whole steps-whole c.if-chain-lt-CHAIN_PLACES.false)
     (answered_back args.file.now _ args.minutes.now _ args.steps.now _ minutes-whole steps-whole
-    (c.judge.auto.1.1.1.0 ∙ length-take-le entries args.minutes.now minutes-whole)
-    (c.judge.auto.1.1.1.1.0 ∙ length-take-le entries args.steps.now steps-whole)
+    (c.judge.auto.minutes ∙ length-take-le entries args.minutes.now minutes-whole)
+    (c.judge.auto.steps ∙ length-take-le entries args.steps.now steps-whole)
     c.judge.ensures)

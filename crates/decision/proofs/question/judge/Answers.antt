@@ -12,7 +12,7 @@ settle_by-passes-requires c =
       ready.accepted,
       ready.counted,
       ready.asker,
-      minutes_start (λ i. (c.shared_slice_known-1.given i).fits) ready (start-by.auto.1.1.0 ∙ pre.1) start-by.ensures.0,
+      minutes_start (λ i. (c.type_inv.file i).fits) ready (start-by.auto.table ∙ pre.1) start-by.ensures.0,
     )
 
 pub returns-then-minute-eq0 : goal.returns-then-minute-eq0
@@ -22,7 +22,7 @@ returns-then-minute-eq0 c =
     let start-by = c.start_by in
     let settle-by = c.settle_by-passes in
     let weight-at = c.weight_at-minute in
-    answered_none (λ i. (c.shared_slice_known-1.given i).fits) pre.0 args.minutes.now pre.1 start-by.auto.1.1.0 start-by.ensures.0 settle-by.ensures weight-at.ensures c.if-minute-eq0.true c.fill.ensures
+    answered_none (λ i. (c.type_inv.file i).fits) pre.0 args.minutes.now pre.1 start-by.auto.table start-by.ensures.0 settle-by.ensures weight-at.ensures c.if-minute-eq0.true c.fill.ensures
 
 pub judge_steps-requires : goal.judge_steps-requires
 judge_steps-requires c =
@@ -31,7 +31,7 @@ judge_steps-requires c =
     let start-by = c.start_by in
     let settle-by = c.settle_by-passes in
     let weight-at = c.weight_at-minute in (
-      granting (λ i. (c.shared_slice_known-1.given i).fits) pre.0 args.minutes.now pre.1 start-by.auto.1.1.0 start-by.ensures.0 settle-by.ensures weight-at.ensures c.if-minute-eq0.false,
+      granting (λ i. (c.type_inv.file i).fits) pre.0 args.minutes.now pre.1 start-by.auto.table start-by.ensures.0 settle-by.ensures weight-at.ensures c.if-minute-eq0.false,
       pre.2,
       pre.3,
     )
@@ -44,5 +44,5 @@ returns c =
     let settle-by = c.settle_by-passes in
     let weight-at = c.weight_at-minute in
     let judge-steps = c.judge_steps in
-    answered_granted (λ i. (c.shared_slice_known-1.given i).fits) pre.0 args.minutes.now pre.1 start-by.auto.1.1.0 start-by.ensures.0 settle-by.ensures
+    answered_granted (λ i. (c.type_inv.file i).fits) pre.0 args.minutes.now pre.1 start-by.auto.table start-by.ensures.0 settle-by.ensures
     weight-at.ensures c.if-minute-eq0.false judge-steps.ensures

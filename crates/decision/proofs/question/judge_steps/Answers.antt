@@ -13,7 +13,7 @@ settle_by-requires c =
       g.ready.accepted,
       g.ready.counted,
       g.ready.asker,
-      steps_start (λ i. (c.shared_slice_known-1.given i).fits) g (start-by.auto.1.1.0 ∙ pre.1) start-by.ensures.0,
+      steps_start (λ i. (c.type_inv.file i).fits) g (start-by.auto.table ∙ pre.1) start-by.ensures.0,
     )
 
 pub returns-then-fewest : goal.returns-then-fewest
@@ -22,7 +22,7 @@ returns-then-fewest c =
     let pre = c.requires in
     let start-by = c.start_by in
     let settle-by = c.settle_by in
-    counted_long (λ i. (c.shared_slice_known-1.given i).fits) pre.0 args.steps.now pre.1 start-by.auto.1.1.0 start-by.ensures.0 settle-by.ensures c.weight_at-fewest.ensures c.if-fewest.true
+    counted_long (λ i. (c.type_inv.file i).fits) pre.0 args.steps.now pre.1 start-by.auto.table start-by.ensures.0 settle-by.ensures c.weight_at-fewest.ensures c.if-fewest.true
 
 pub expand_entry-requires : goal.expand_entry-requires
 expand_entry-requires c =
@@ -30,7 +30,7 @@ expand_entry-requires c =
     let pre = c.requires in
     let start-by = c.start_by in
     let settle-by = c.settle_by in
-    let table = steps_table (λ i. (c.shared_slice_known-1.given i).fits) pre.0 args.steps.now pre.1 start-by.auto.1.1.0 start-by.ensures.0 settle-by.ensures in
+    let table = steps_table (λ i. (c.type_inv.file i).fits) pre.0 args.steps.now pre.1 start-by.auto.table start-by.ensures.0 settle-by.ensures in
     let same = c.weight_at-fewest.ensures in
     (table, pre.0.ready.counted, rw same at c.if-fewest.false, omega arith)
 
@@ -41,5 +41,5 @@ returns c =
     let start-by = c.start_by in
     let settle-by = c.settle_by in
     let weight-at = c.weight_at-fewest in
-    counted_short (λ i. (c.shared_slice_known-1.given i).fits) pre.0 args.steps.now pre.1 start-by.auto.1.1.0 start-by.ensures.0 settle-by.ensures
+    counted_short (λ i. (c.type_inv.file i).fits) pre.0 args.steps.now pre.1 start-by.auto.table start-by.ensures.0 settle-by.ensures
     weight-at.ensures c.if-fewest.false c.expand_entry.ensures

@@ -21,7 +21,7 @@ settle_by-passes-requires c =
     let q = args.request in
     let given = sym c.admit-admitted.ensures ∙ ap admitted_as c.in-Count.is in
     let ready = admitted_ready s q given in
-    (ready.accepted, ready.counted, ready.asker, minutes_within _ c.if-table-lt-ENTRIES.false (λ i. (c.slice_known-1.given i).fits))
+    (ready.accepted, ready.counted, ready.asker, minutes_within _ c.if-table-lt-ENTRIES.false (λ i. (c.type_inv.table i).fits))
 
 pub returns-in-Refused : goal.returns-in-Refused
 returns-in-Refused c =

@@ -7,6 +7,7 @@ use Rattle.decision.specs.Question.{request_of, shown_as, Shows, Stocks.refused,
 use Rattle.wac.specs.Limits.{keys}
 use Rattle.decision.proofs.AskLaws.{stocking_start, stocking_yes, stocking_no, Stocking, shown_refused, asker_alike}
 use Rattle.decision.proofs.question.stock.Goals as goal
+use Rattle.decision.proofs.question.stock.Goals.{in-Yes, in-No}
 
 pub loop-key-init : goal.loop-key-init
 loop-key-init c = stocking_start c.args.file.now c.args.owner c.args.at
@@ -31,10 +32,9 @@ loop-key-preserved c =
     let low : loop.key < keys = c.loop-key-test.true in
     let same : loop.key % 256 ≡ loop.key = omega arith in
     let shown = subst (λ k. Shows args.file.now (request_of args.owner k 2 args.at) (shown_as c.may-shown.result)) same c.may-shown.ensures in
-    ⊎_elim
-    (λ yes. rw yes.2 (stocking_yes args.file.now _ _ _ loop.keys loop.invariant low shown (ap shown_as yes.1.given.1)))
-    (λ no. rw no.2 (stocking_no args.file.now _ _ _ loop.keys loop.invariant low shown (ap shown_as no.1.given.1)))
-    c.match-shown.branch
+    elim c.match-shown.branch [
+      in-Yes w ↦ rw w.keys-is (stocking_yes args.file.now _ _ _ loop.keys loop.invariant low shown (ap shown_as w.in-Yes.is))
+    | in-No w ↦ rw w.keys-is (stocking_no args.file.now _ _ _ loop.keys loop.invariant low shown (ap shown_as w.in-No.is)) ]
 
 pub returns : goal.returns
 returns c =

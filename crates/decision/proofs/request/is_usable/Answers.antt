@@ -9,19 +9,19 @@ use Rattle.decision.proofs.request.is_usable.Goals as goal
 
 pub returns-then-not-in_force : goal.returns-then-not-in_force
 unfolding usable
-returns-then-not-in_force c = sym (false_and _ _ (sym c.in_force.ensures ∙ not-true _ c.if-not-in_force.true))
+returns-then-not-in_force c = sym (false_and _ _ (sym c.in_force.ensures ∙ c.if-not-in_force.true))
 
 pub returns-then-cert : goal.returns-then-cert
 unfolding usable
 returns-then-cert c =
     c.all_held.ensures
     ∙ sym
-    (and_true _ _ (sym c.in_force.ensures ∙ not-false _ c.if-not-in_force.false)
+    (and_true _ _ (sym c.in_force.ensures ∙ c.if-not-in_force.false)
     ∙ when_true _ _ _ (eq-eqb _ _ c.if-cert.true))
 
 pub returns-else-cert : goal.returns-else-cert
 unfolding usable
 returns-else-cert c =
     sym
-    (and_true _ _ (sym c.in_force.ensures ∙ not-false _ c.if-not-in_force.false)
+    (and_true _ _ (sym c.in_force.ensures ∙ c.if-not-in_force.false)
     ∙ when_false _ _ _ (ne_eqb _ _ c.if-cert.false))

@@ -5,18 +5,21 @@ use borrow.Author.Rules.{rules}
 use borrow.Author.Tests.{not-true, not-false}
 use Rattle.wac.specs.File.{cert_at}
 use Rattle.wac.specs.Record.{Lawful}
+use mathlib.Core.List.{List}
+use Prim.Native.Nat.{ℕ, ◌<◌}
+use Rattle.wac.specs.View.{ReadAlone}
+use Rattle.wac.specs.declared.cert.Cert.{Cert}
+use Rattle.wac.specs.declared.view.Alone.{Alone}
+use Rattle.wac.specs.declared.view.Alone.TheVariants as alones
+use Rattle.wac.specs.File.{count_of}
+use Rattle.decision.specs.Engine.{Accepted}
 use Rattle.decision.proofs.FetchLaws.{fetched_lawful, fetched_same, fetched_refused}
 use Rattle.decision.proofs.WritingLaws.{read_fits, brings_not_live, brings_not_issuer, brings_not_left, brings_steps}
 use Rattle.decision.proofs.writing.brings_by.Goals as goal
 
 -- what is known of the certificate
-known : (c : tie.After-found) →
-    (c.found.given.0.0 ≡ cert_at c.before.before.before.before.before.args.file.now c.before.before.before.before.before.args.i)
-    × Lawful c.found.given.0.0
-known c =
-    let pre = c.before.before.before.before.before.requires in
-    let from = c.before.before.record-alone.ensures in
-    (fetched_same from pre.0.accepted pre.1 c.found.given.1, fetched_lawful from c.found.given.1)
+known : {s : List ℕ} {n : ℕ} {r : Alone} {cert : Cert} → Accepted s → n < count_of s → ReadAlone s n r → r ≡ alones.Certificate cert → (cert ≡ cert_at s n) × Lawful cert
+known ok below from is = (fetched_same from ok below is, fetched_lawful from is)
 
 pub returns-in_default : goal.returns-in_default
 returns-in_default c =
@@ -25,23 +28,23 @@ returns-in_default c =
 
 pub returns-then-not-is_live : goal.returns-then-not-is_live
 returns-then-not-is_live c =
-    let same = (known c.before.before.before).0 in
-    brings_not_live _ _ _ _ _ _ _ _ _ same (sym c.is_live.ensures ∙ not-true _ c.if-not-is_live.true)
+    let same = (known c.requires.0.accepted c.requires.1 c.record_alone-found.ensures c.in-Certificate.is).0 in
+    brings_not_live _ _ _ _ _ _ _ _ _ same (sym c.is_live.ensures ∙ c.if-not-is_live.true)
 
 pub returns-then-cert-key : goal.returns-then-cert-key
 returns-then-cert-key c =
-    let same = (known c.before.before.before.before.before).0 in
+    let same = (known c.requires.0.accepted c.requires.1 c.record_alone-found.ensures c.in-Certificate.is).0 in
     brings_not_issuer _ _ _ _ _ _ _ _ _ same c.if-cert-key.true
 
 pub returns-then-cert-symbol : goal.returns-then-cert-symbol
 returns-then-cert-symbol c =
-    let same = (known c.before.before.before.before.before.before.before).0 in
+    let same = (known c.requires.0.accepted c.requires.1 c.record_alone-found.ensures c.in-Certificate.is).0 in
     brings_not_left _ _ _ _ _ _ _ _ _ same c.if-cert-symbol.true
 
 pub read_from-read-requires : goal.read_from-read-requires
 read_from-read-requires c =
     let pre = c.requires in
-    let lawful = (known c.before.before.before.before.before.before.before.before).1 in
+    let lawful = (known c.requires.0.accepted c.requires.1 c.record_alone-found.ensures c.in-Certificate.is).1 in
     (pre.0.within, lawful.count, omega arith)
 
 pub overflow_add-result : goal.overflow_add-result
@@ -56,10 +59,9 @@ weight_at-requires c =
 
 pub returns : goal.returns
 returns c =
-    let same = (known c.before.before.before.before.before.before.before.before.before.before).0 in
-    let live = c.before.before.before.before.before.before.before in
+    let same = (known c.requires.0.accepted c.requires.1 c.record_alone-found.ensures c.in-Certificate.is).0 in
     brings_steps _ _ _ _ _ _ _ _ _ same _ _
-    (sym live.before.is_live.ensures ∙ not-false _ live.if1.false)
+    (sym c.is_live.ensures ∙ c.if-not-is_live.false)
     c.if-cert-key.false
     c.if-cert-symbol.false
     c.read_from-read.ensures

@@ -24,5 +24,5 @@ loop-i-preserved c = (omega arith, below_more _ _ c.loop-i.invariant.1 (sym c.br
 pub returns : goal.returns
 returns c =
     let pre = c.requires in
-    let lawful = rules_lawful Minutes _ _ (λ i. (c.shared_slice_known-1.given i).fits) pre.0.accepted pre.0.asker in
+    let lawful = rules_lawful Minutes _ _ (λ i. (c.type_inv.file i).fits) pre.0.accepted pre.0.asker in
     absurd (bringing_some lawful pre.0 _ _ _ pre.2 pre.3 (λ i h. c.loop-i.invariant.1 i (omega arith)))

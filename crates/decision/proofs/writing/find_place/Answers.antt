@@ -30,24 +30,21 @@ read_from-rest-requires c =
 
 pub overflow_add-first : goal.overflow_add-first
 overflow_add-first c =
-    let head = c.before.before.before in
-    let start = head.before.before.before.before in
-    let a = start.args in
+    let a = c.args in
     omega (
       arith,
       c.weight_at-first.ensures,
-      at_fits a.floor a.table.now a.from head.before.before.symbol-at.result head.loop.place start.requires.0.within,
+      at_fits a.floor a.table.now a.from c.symbol_at-symbol.result c.loop-place.place c.requires.0.within,
       c.read_from-rest.ensures,
-      read_fits a.floor a.table.now a.cert (a.j + 1) head.loop.place a.to,
+      read_fits a.floor a.table.now a.cert (a.j + 1) c.loop-place.place a.to,
     )
 
 pub returns-then-first-rest : goal.returns-then-first-rest
 returns-then-first-rest c =
-    let head = c.before.before.before.before in
     let goes =
-    place_sum head.before.before.before.before.args.floor _ _ _ _ _ _
-    head.before.before.symbol-at.ensures
-    head.before.read-from.ensures
+    place_sum c.args.floor _ _ _ _ _ _
+    c.symbol_at-symbol.ensures
+    c.read_from-whole.ensures
     c.weight_at-first.ensures
     c.read_from-rest.ensures
     c.if-first-rest.true in
@@ -55,15 +52,14 @@ returns-then-first-rest c =
 
 pub loop-place-preserved : goal.loop-place-preserved
 loop-place-preserved c =
-    let head = c.before.before.before.before in
     let other =
-    place_other head.before.before.before.before.args.floor _ _ _ _ _ _
-    head.before.before.symbol-at.ensures
-    head.before.read-from.ensures
+    place_other c.args.floor _ _ _ _ _ _
+    c.symbol_at-symbol.ensures
+    c.read_from-whole.ensures
     c.weight_at-first.ensures
     c.read_from-rest.ensures
     c.if-first-rest.false in
-    (omega arith, below_more _ _ head.loop.invariant.1 other)
+    (omega arith, below_more _ _ c.loop-place.invariant.1 other)
 
 pub returns : goal.returns
 returns c =
