@@ -1,6 +1,6 @@
 -- How large what comes back can be: minutes of 32 bits, at most 200 steps and 2,576 passes, a record below 128.
-use mathlib.Core.Path.{◌≡◌, sym, ap, ◌∙◌, subst}
-use mathlib.Core.List.{List, [], ◌∷◌, ◌++◌}
+use mathlib.Core.Path.{◌≡◌, sym, ap, subst}
+use mathlib.Core.List.{List, ◌++◌}
 use Prim.Native.Nat.{ℕ, ◌+◌, ◌*◌, ◌<◌, ◌≤◌}
 use native.Mathlib.Omega.{arith}
 use lib.ListN.{length, get_or}
@@ -18,7 +18,6 @@ use Rattle.rewriting.proofs.Sound.{weighed_fits}
 use Rattle.rewriting.proofs.Settling.{settles, ranks_most, count_unique}
 use Rattle.rewriting.proofs.Bound.{passes_bounded}
 use Rattle.decision.specs.Usable.{rules_of}
-use Rattle.decision.specs.Engine.{Within, SettledFrom}
 use Rattle.decision.specs.Question.{request_cases, ask_cases, settle_cases, Ready, asked, reply_of, refusal_values, refusal_record, settling_as, Counted, Counted.counted, Counted.uncountable, Answered.granted, Answered.denied, Judged, Judged.refused, Judged.answered, Settles, Settles.refused, Settles.settled}
 use Rattle.decision.specs.declared.request.Request.{Request}
 use Rattle.decision.specs.declared.lens.Lens.TheVariants.{Minutes}

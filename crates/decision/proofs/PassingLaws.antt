@@ -11,7 +11,7 @@ use borrow.Author.Tests.{eqb-true, eq-eqb, ne_eqb}
 use lib.Dec.{eqb}
 use lib.ListN.{length, get_or, take, drop, set, length-set, replicate, get_or-replicate}
 use lib.Seq.{get_or-take, get_or-set_other, drop-set-lt}
-use Rattle.wac.specs.Limits.{keys, identifiers, delegate, access, end_place, entries}
+use Rattle.wac.specs.Limits.{keys, delegate, access, end_place, entries}
 use Rattle.wac.specs.Record.{Lawful}
 use Rattle.wac.specs.File.{count_of, cert_at}
 use Rattle.wac.specs.declared.cert.Cert.{Cert}
@@ -32,7 +32,7 @@ use Rattle.decision.specs.declared.lens.Lens.{Lens}
 use Rattle.decision.specs.declared.lens.Lens.TheVariants.{Minutes, Steps}
 use Rattle.decision.proofs.RulesLaws.{rules_count, rules_rule, rules_weight, rules_live}
 use Rattle.decision.proofs.ReadingLaws.{best_fits, reading_asker}
-use Rattle.decision.proofs.TableLaws.{entry_of_lem, is_entry_lem, number_low, number_same, set_here, set_there, row_same, held_at, list_held, within_entries}
+use Rattle.decision.proofs.TableLaws.{is_entry_lem, number_low, number_same, set_here, set_there, row_same, held_at, list_held, within_entries}
 
 -- the asker's marks are entries
 pub asker_entry : (k s : ℕ) → k < keys → Mark s → is_entry k s end_place ≡ true

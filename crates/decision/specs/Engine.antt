@@ -1,6 +1,6 @@
 -- What the engine's private functions say of lists: each is a definition of rewriting, at the table that a list holds.
-use Rattle.std.specs.Prelude.{◌≡◌, Bool, true, cond, ◌&&◌, List, ℕ, ◌≤◌, eqb, length, get_or, take, drop}
-use Rattle.wac.specs.Limits.{keys, entries}
+use Rattle.std.specs.Prelude.{◌≡◌, true, cond, ◌&&◌, List, ℕ, ◌≤◌, eqb, length, get_or, take, drop}
+use Rattle.wac.specs.Limits.{entries}
 use Rattle.wac.specs.Answers.{gives, first_of}
 use Rattle.wac.specs.File.{count_of, file_cases}
 use Rattle.wac.specs.declared.cert.Cert.{Cert}

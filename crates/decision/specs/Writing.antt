@@ -1,9 +1,8 @@
 -- What the functions that write out the chain say: document 01, "Entries and passes", "each entry's own certificate first and then the entries its subject reads".
-use Rattle.std.specs.Prelude.{◌≡◌, Bool, true, ◌&&◌, List, ℕ, suc, ◌+◌, ◌<◌, ◌≤◌, eqb, length, drop}
+use Rattle.std.specs.Prelude.{◌≡◌, Bool, ◌&&◌, List, ℕ, suc, ◌+◌, ◌<◌, ◌≤◌, eqb, length, drop}
 use Rattle.std.proofs.lemmas.List.Edits.{sets}
 use Rattle.wac.specs.Limits.{keys, chain_places, subject_ids}
-use Rattle.wac.specs.Bytes.{AreBytes}
-use Rattle.wac.specs.File.{count_of, cert_at}
+use Rattle.wac.specs.File.{cert_at}
 use Rattle.wac.specs.declared.cert.Cert.{Cert}
 use Rattle.rewriting.specs.Entries.{Fires, Brings, Reads}
 use Rattle.rewriting.specs.Passes.{reading, fires}

@@ -1,5 +1,4 @@
 -- `arrivals_of` meets its contract: an identifier, or a mark.
-use borrow.Author.Rules.{rules}
 use borrow.Author.Tests.{lt-ltb, le-ltb}
 use Rattle.decision.specs.Table.{arrivals_of}
 use Rattle.decision.proofs.entries.arrivals_of.Goals as goal

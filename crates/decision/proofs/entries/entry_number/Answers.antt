@@ -1,6 +1,5 @@
 -- `entry_number` meets its contract: the number where there is such an entry.
 use mathlib.Core.Path.{sym, ◌∙◌}
-use borrow.Author.Rules.{rules}
 use Rattle.decision.proofs.Choices.{when_true, when_false}
 use Rattle.decision.proofs.entries.entry_number.Goals as goal
 

@@ -1,7 +1,5 @@
 -- `weight_at` meets its contract: what the list gives the entry, or none.
 use mathlib.Core.Path.{sym, ap, ◌∙◌}
-use borrow.Author.Rules.{rules}
-use borrow.Author.Tests.{not-true, not-false}
 use lib.ListN.{get_or}
 use Rattle.decision.specs.Table.{table_of}
 use Rattle.decision.proofs.Choices.{when_true, when_false}

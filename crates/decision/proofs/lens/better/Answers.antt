@@ -1,6 +1,5 @@
 -- `better` meets its contract: the later minute, the fewer steps.
 use native.Mathlib.Omega.{arith}
-use borrow.Author.Rules.{rules}
 use Rattle.rewriting.specs.Weighing.{minutes, steps}
 use Rattle.decision.proofs.lens.better.Goals as goal
 

@@ -1,8 +1,6 @@
 -- `is_live` meets its contract: usable, and by steps at or above the minute.
 use mathlib.Core.Bool.{false}
 use mathlib.Core.Path.{◌≡◌, sym, ◌∙◌}
-use borrow.Author.Rules.{rules}
-use borrow.Author.Tests.{not-true, not-false}
 use Rattle.decision.specs.Lens.{live_by}
 use Rattle.decision.specs.Usable.{usable}
 use Rattle.decision.specs.declared.lens.Lens.TheVariants.{Minutes, Steps}

@@ -1,6 +1,5 @@
 -- `joined` meets its contract: the earlier minute, the sum of the steps up to 201.
 use native.Mathlib.Omega.{arith}
-use borrow.Author.Rules.{rules}
 use Rattle.rewriting.specs.Weighing.{minutes, steps}
 use Rattle.decision.proofs.lens.joined.Goals as goal
 

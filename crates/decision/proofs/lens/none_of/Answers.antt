@@ -1,5 +1,4 @@
 -- `none_of` meets its contract: the none of each weighing.
-use borrow.Author.Rules.{rules}
 use Rattle.rewriting.specs.Weighing.{minutes, steps}
 use Rattle.decision.proofs.lens.none_of.Goals as goal
 

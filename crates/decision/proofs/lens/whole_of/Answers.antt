@@ -1,5 +1,4 @@
 -- `whole_of` meets its contract: the whole of each weighing.
-use borrow.Author.Rules.{rules}
 use Rattle.rewriting.specs.Weighing.{minutes, steps}
 use Rattle.decision.proofs.lens.whole_of.Goals as goal
 

@@ -1,8 +1,7 @@
 use mathlib.Core.Path.{◌≡◌, refl, sym, ◌∙◌}
-use Prim.Native.Nat.{◌≤◌, ◌-◌}
 use native.Mathlib.Omega.{arith}
 use borrow.Author.Rules.{rules}
-use lib.ListN.{length, length-set, take}
+use lib.ListN.{length-set}
 use lib.Seq.{take_all}
 use Rattle.wac.specs.Limits.{entries}
 use Rattle.decision.proofs.TableLaws.{copy_more}

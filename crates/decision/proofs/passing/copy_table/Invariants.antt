@@ -1,12 +1,8 @@
 -- `copy_table` meets its contract. The loop's invariant: the places passed are copied. The measure is what is left.
-use mathlib.Core.Path.{◌≡◌, refl, sym, ◌∙◌}
+use mathlib.Core.Path.{◌≡◌}
 use Prim.Native.Nat.{◌≤◌, ◌-◌}
-use native.Mathlib.Omega.{arith}
-use borrow.Author.Rules.{rules}
-use lib.ListN.{length, length-set, take}
-use lib.Seq.{take_all}
+use lib.ListN.{length, take}
 use Rattle.wac.specs.Limits.{entries}
-use Rattle.decision.proofs.TableLaws.{copy_more}
 use Rattle.decision.proofs.passing.copy_table.Given as goal
 
 abbrev pub invariant-loop-e : goal.invariant-loop-e

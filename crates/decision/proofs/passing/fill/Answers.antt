@@ -1,10 +1,8 @@
-use mathlib.Core.List.{◌++◌}
 use mathlib.Core.Path.{◌≡◌, refl, ap, ◌∙◌}
-use Prim.Native.Nat.{◌≤◌, ◌-◌}
 use native.Mathlib.Omega.{arith}
 use borrow.Author.Fill.{fill_more}
 use borrow.Author.Rules.{rules}
-use lib.ListN.{length, length-set, take, drop, set, replicate, length-replicate}
+use lib.ListN.{length-set, take, drop, set, replicate, length-replicate}
 use lib.Seq.{take_at, drop_at}
 use Rattle.wac.specs.Limits.{entries}
 use Rattle.decision.proofs.passing.fill.Goals as goal

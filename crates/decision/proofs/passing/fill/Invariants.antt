@@ -1,12 +1,8 @@
 -- `fill` meets its contract. The loop's invariant: the places passed hold the weight, and the others what they held. The measure is what is left.
 use mathlib.Core.List.{◌++◌}
-use mathlib.Core.Path.{◌≡◌, refl, ap, ◌∙◌}
+use mathlib.Core.Path.{◌≡◌}
 use Prim.Native.Nat.{◌≤◌, ◌-◌}
-use native.Mathlib.Omega.{arith}
-use borrow.Author.Fill.{fill_more}
-use borrow.Author.Rules.{rules}
-use lib.ListN.{length, length-set, take, drop, set, replicate, length-replicate}
-use lib.Seq.{take_at, drop_at}
+use lib.ListN.{length, drop, replicate}
 use Rattle.wac.specs.Limits.{entries}
 use Rattle.decision.proofs.passing.fill.Given as goal
 

@@ -1,6 +1,5 @@
-use mathlib.Core.Logic.{⊎_elim}
 use mathlib.Core.Path.{sym, subst, ◌∙◌}
-use Prim.Native.Nat.{◌+◌, ◌≤◌, ◌<◌, ◌-◌}
+use Prim.Native.Nat.{◌+◌, ◌<◌}
 use native.Mathlib.Omega.{arith}
 use borrow.Author.Rules.{rules}
 use Rattle.wac.specs.File.{count_of}
@@ -25,13 +24,14 @@ loop-i-preserved c =
     let below : h.i < count_of a.file.now = omega arith in (
       omega arith,
       elim c.match-found.branch [
-        in-Certificate+then-is_live w ↦
+        | in-Certificate+then-is_live w ↦
             subst (λ l. Passing a.lens a.file.now a.request a.old.now a.new.now l (h.i + 1)) (sym w.new-is)
             (passing_live h.invariant.1 (fetched_same from p.0 below w.in-Certificate.is) (sym w.is_live.ensures ∙ w.if-is_live.true) p.3 (fetched_lawful from w.in-Certificate.is) w.try_cert.ensures)
-      | in-Certificate+else-is_live w ↦
+        | in-Certificate+else-is_live w ↦
             subst (λ l. Passing a.lens a.file.now a.request a.old.now a.new.now l (h.i + 1)) (sym w.new-is)
             (passing_dead h.invariant.1 (fetched_same from p.0 below w.in-Certificate.is) (sym w.is_live.ensures ∙ w.if-is_live.false))
-      | in-Refused w ↦ absurd (fetched_refused from p.0 below w.in-Refused.is) ],
+        | in-Refused w ↦ absurd (fetched_refused from p.0 below w.in-Refused.is)
+      ],
     )
 
 pub shape_of-new : goal.shape_of-new

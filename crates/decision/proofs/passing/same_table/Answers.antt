@@ -1,12 +1,8 @@
-use mathlib.Core.Bool.{true}
 use mathlib.Core.Path.{◌≡◌, sym}
-use Prim.Native.Nat.{ℕ, ◌≤◌, ◌<◌, ◌-◌}
 use native.Mathlib.Omega.{arith}
 use borrow.Author.Count.{below_none, below_more}
 use borrow.Author.Rules.{rules}
 use borrow.Author.Tests.{eq-eqb, ne_eqb}
-use lib.Dec.{eqb}
-use lib.ListN.{get_or}
 use Rattle.wac.specs.Limits.{entries}
 use Rattle.wac.proofs.Tests.{all_below_true, all_below_false}
 use Rattle.decision.proofs.passing.same_table.Goals as goal

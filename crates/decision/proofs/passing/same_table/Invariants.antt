@@ -1,15 +1,10 @@
 -- `same_table` meets its contract. The loop's invariant: the places passed are the same. The measure is what is left.
 use mathlib.Core.Bool.{true}
-use mathlib.Core.Path.{◌≡◌, sym}
+use mathlib.Core.Path.{◌≡◌}
 use Prim.Native.Nat.{ℕ, ◌≤◌, ◌<◌, ◌-◌}
-use native.Mathlib.Omega.{arith}
-use borrow.Author.Count.{below_none, below_more}
-use borrow.Author.Rules.{rules}
-use borrow.Author.Tests.{eq-eqb, ne_eqb}
 use lib.Dec.{eqb}
 use lib.ListN.{get_or}
 use Rattle.wac.specs.Limits.{entries}
-use Rattle.wac.proofs.Tests.{all_below_true, all_below_false}
 use Rattle.decision.proofs.passing.same_table.Given as goal
 
 abbrev pub invariant-loop-e : goal.invariant-loop-e

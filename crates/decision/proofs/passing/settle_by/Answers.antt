@@ -1,14 +1,12 @@
-use mathlib.Core.Path.{◌≡◌, sym, subst, ◌∙◌}
-use Prim.Native.Nat.{ℕ, ◌-◌}
+use mathlib.Core.Path.{sym, subst, ◌∙◌}
+use Prim.Native.Nat.{ℕ}
 use native.Mathlib.Omega.{arith}
-use lib.ListN.{length, length-replicate}
-use Rattle.decision.specs.Engine.{Within, held}
-use Rattle.decision.specs.Lens.{question_by}
+use lib.ListN.{length-replicate}
+use Rattle.decision.specs.Engine.{Within}
 use Rattle.wac.specs.Bytes.{AreBytes}
 use Rattle.wac.specs.Limits.{entries}
 use Rattle.decision.proofs.RulesLaws.{rules_lawful}
-use Rattle.decision.proofs.SettlingLaws.{Going, going_none, going_few, going_less, going_more, settled, within_take}
-use Rattle.rewriting.proofs.Settling.{ranks}
+use Rattle.decision.proofs.SettlingLaws.{going_none, going_few, going_less, going_more, settled, within_take}
 use Rattle.decision.proofs.passing.settle_by.Goals as goal
 
 pub loop-lens-init : goal.loop-lens-init

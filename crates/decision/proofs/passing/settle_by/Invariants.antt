@@ -1,14 +1,11 @@
 -- `settle_by` meets its contract. The loop's invariant: the table is that of as many passes as were counted, each of which changed something. The measure is what is left of the first table's ranks.
-use mathlib.Core.Path.{◌≡◌, sym, subst, ◌∙◌}
-use Prim.Native.Nat.{ℕ, ◌-◌}
-use native.Mathlib.Omega.{arith}
-use lib.ListN.{length, length-replicate}
-use Rattle.decision.specs.Engine.{Within, held}
+use mathlib.Core.Path.{◌≡◌}
+use Prim.Native.Nat.{◌-◌}
+use lib.ListN.{length}
+use Rattle.decision.specs.Engine.{held}
 use Rattle.decision.specs.Lens.{question_by}
-use Rattle.wac.specs.Bytes.{AreBytes}
 use Rattle.wac.specs.Limits.{entries}
-use Rattle.decision.proofs.RulesLaws.{rules_lawful}
-use Rattle.decision.proofs.SettlingLaws.{Going, going_none, going_few, going_less, going_more, settled, within_take}
+use Rattle.decision.proofs.SettlingLaws.{Going}
 use Rattle.rewriting.proofs.Settling.{ranks}
 use Rattle.decision.proofs.passing.settle_by.Given as goal
 

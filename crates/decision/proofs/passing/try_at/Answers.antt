@@ -1,5 +1,4 @@
 -- `try_at` meets its contract: one store at the entry's number.
-use borrow.Author.Rules.{rules}
 use Rattle.decision.specs.Engine.{held}
 use Rattle.decision.specs.Lens.{weighing_of, weight_by, question_by}
 use Rattle.decision.specs.Table.{number}

@@ -1,9 +1,6 @@
-use Prim.Native.Nat.{◌≤◌, ◌-◌}
-use mathlib.Core.Path.{◌≡◌, ap}
+use mathlib.Core.Path.{ap}
 use native.Mathlib.Omega.{arith}
-use borrow.Author.Rules.{rules}
-use Rattle.decision.specs.Table.{arrivals_of}
-use Rattle.decision.proofs.PassingLaws.{left_symbol, Trying, trying_none, trying_skip, trying_more, tried_all}
+use Rattle.decision.proofs.PassingLaws.{left_symbol, trying_none, trying_skip, trying_more, tried_all}
 use Rattle.decision.proofs.TableLaws.{arrives, arrives_back}
 use Rattle.decision.proofs.passing.try_cert.Goals as goal
 

@@ -1,6 +1,5 @@
 -- `admit` meets its contract: the file, then the request.
 use mathlib.Core.Path.{sym, ap, ◌∙◌}
-use borrow.Author.Rules.{rules}
 use Rattle.decision.specs.Question.{request_cases}
 use Rattle.wac.specs.Answers.{first_of}
 use Rattle.wac.specs.File.{count_of, file_cases, checked}

@@ -1,6 +1,5 @@
 -- `admit_request` meets its contract: each return is the first case that holds, by the tests that led there.
 use mathlib.Core.Path.{sym, ◌∙◌}
-use borrow.Author.Rules.{rules}
 use borrow.Author.Tests.{le-leb, lt-leb, lt-ltb, le-ltb, eq-eqb, ne_eqb}
 use Rattle.decision.specs.Question.{request_cases}
 use Rattle.wac.proofs.Cases.{first_none, first_holds, first_fails}

@@ -1,7 +1,6 @@
 -- `ask` meets its contract: refused before any place is written; else judged in the first places lent.
 use mathlib.Core.Path.{refl, sym, ap, ◌∙◌}
 use native.Mathlib.Omega.{arith}
-use borrow.Author.Rules.{rules}
 use lib.ListN.{length}
 use lib.Seq.{length-take-le}
 use Rattle.decision.specs.Question.{admitted_as, Judged.refused, Judged.answered}

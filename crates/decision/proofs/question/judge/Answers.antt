@@ -1,6 +1,5 @@
 -- `judge` meets its contract: the minutes settle; no chain, or the steps of a granted question.
 use mathlib.Core.Path.{◌∙◌}
-use borrow.Author.Rules.{rules}
 use Rattle.decision.proofs.QuestionLaws.{minutes_start, granting, answered_none, answered_granted}
 use Rattle.decision.proofs.question.judge.Goals as goal
 

@@ -1,7 +1,6 @@
 -- `judge_steps` meets its contract: the steps settle, and the chain is written out where it has at most 200.
 use mathlib.Core.Path.{◌∙◌}
 use native.Mathlib.Omega.{arith}
-use borrow.Author.Rules.{rules}
 use Rattle.decision.proofs.QuestionLaws.{steps_start, steps_table, counted_long, counted_short}
 use Rattle.decision.proofs.question.judge_steps.Goals as goal
 

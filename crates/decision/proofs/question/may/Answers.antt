@@ -1,7 +1,6 @@
 -- `may` meets its contract: the verdict on the short form, shown.
 use mathlib.Core.Path.{subst}
 use native.Mathlib.Omega.{arith}
-use borrow.Author.Rules.{rules}
 use Rattle.decision.specs.Question.{request_of, shown_as, Shows}
 use Rattle.decision.proofs.AskLaws.{shown_of, verdict_shown}
 use Rattle.decision.proofs.question.may.Goals as goal

@@ -1,6 +1,5 @@
 -- `settle` meets its contract: refused before any place is written; else the passes of the definition.
 use mathlib.Core.Path.{refl, sym, ap, ◌∙◌}
-use borrow.Author.Rules.{rules}
 use lib.ListN.{length}
 use Rattle.decision.specs.Question.{admitted_as, Settles.refused, Settles.settled}
 use Rattle.decision.proofs.AskLaws.{admitted_ready, settle_refused, few_places, settle_given, minutes_within}
@@ -21,7 +20,7 @@ settle_by-passes-requires c =
     let q = args.request in
     let given = sym c.admit-admitted.ensures ∙ ap admitted_as c.in-Count.is in
     let ready = admitted_ready s q given in
-    (ready.accepted, ready.counted, ready.asker, minutes_within _ c.if-table-lt-ENTRIES.false (λ i. (c.type_inv.table i).fits))
+    (ready.accepted, ready.counted, ready.asker, minutes_within _ c.if-table-lt-ENTRIES.false (λ i. (c.slice_known-1.given i).fits))
 
 pub returns-in-Refused : goal.returns-in-Refused
 returns-in-Refused c =

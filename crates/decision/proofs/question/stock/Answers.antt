@@ -1,11 +1,9 @@
-use mathlib.Core.Logic.{⊎_elim}
 use mathlib.Core.Path.{◌≡◌, refl, sym, ap, ◌∙◌, subst}
-use Prim.Native.Nat.{◌<◌, ◌%◌, ◌-◌}
+use Prim.Native.Nat.{◌<◌, ◌%◌}
 use native.Mathlib.Omega.{arith}
-use borrow.Author.Rules.{rules}
 use Rattle.decision.specs.Question.{request_of, shown_as, Shows, Stocks.refused, Stocks.given}
 use Rattle.wac.specs.Limits.{keys}
-use Rattle.decision.proofs.AskLaws.{stocking_start, stocking_yes, stocking_no, Stocking, shown_refused, asker_alike}
+use Rattle.decision.proofs.AskLaws.{stocking_start, stocking_yes, stocking_no, shown_refused, asker_alike}
 use Rattle.decision.proofs.question.stock.Goals as goal
 use Rattle.decision.proofs.question.stock.Goals.{in-Yes, in-No}
 
@@ -33,8 +31,9 @@ loop-key-preserved c =
     let same : loop.key % 256 ≡ loop.key = omega arith in
     let shown = subst (λ k. Shows args.file.now (request_of args.owner k 2 args.at) (shown_as c.may-shown.result)) same c.may-shown.ensures in
     elim c.match-shown.branch [
-      in-Yes w ↦ rw w.keys-is (stocking_yes args.file.now _ _ _ loop.keys loop.invariant low shown (ap shown_as w.in-Yes.is))
-    | in-No w ↦ rw w.keys-is (stocking_no args.file.now _ _ _ loop.keys loop.invariant low shown (ap shown_as w.in-No.is)) ]
+      | in-Yes w ↦ rw w.keys-is (stocking_yes args.file.now _ _ _ loop.keys loop.invariant low shown (ap shown_as w.in-Yes.is))
+      | in-No w ↦ rw w.keys-is (stocking_no args.file.now _ _ _ loop.keys loop.invariant low shown (ap shown_as w.in-No.is))
+    ]
 
 pub returns : goal.returns
 returns c =

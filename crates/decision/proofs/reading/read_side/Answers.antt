@@ -5,7 +5,6 @@ use Rattle.decision.specs.Lens.{question_by}
 use Rattle.decision.specs.Engine.{held}
 use Rattle.decision.proofs.TableLaws.{list_held}
 use Rattle.decision.proofs.ReadingLaws.{read_last}
-use borrow.Author.Rules.{rules}
 use Rattle.decision.proofs.reading.read_side.Goals as goal
 
 pub returns-then-symbols_in-eq1 : goal.returns-then-symbols_in-eq1

@@ -1,7 +1,6 @@
 -- `symbol_at` meets its contract: an identifier below the count, the closing mark after them.
 use mathlib.Core.Path.{◌≡◌, sym, ◌∙◌}
 use native.Mathlib.Omega.{arith}
-use borrow.Author.Rules.{rules}
 use Rattle.decision.proofs.ReadingLaws.{symbol_id, symbol_mark}
 use Rattle.decision.proofs.reading.symbol_at.Goals as goal
 

@@ -1,7 +1,6 @@
 -- `symbols_in` meets its contract: the identifiers, and the closing mark if there is one.
 use mathlib.Core.Path.{sym}
 use native.Mathlib.Omega.{arith}
-use borrow.Author.Rules.{rules}
 use Rattle.decision.proofs.ReadingLaws.{symbols_unmarked, symbols_marked}
 use Rattle.decision.proofs.reading.symbols_in.Goals as goal
 

@@ -1,7 +1,6 @@
 -- `is_usable` meets its contract: the dates, then the rights of an authorization.
 use mathlib.Core.Path.{sym, ◌∙◌}
-use borrow.Author.Rules.{rules}
-use borrow.Author.Tests.{eq-eqb, ne_eqb, not-true, not-false}
+use borrow.Author.Tests.{eq-eqb, ne_eqb}
 use Rattle.decision.specs.Usable.{usable}
 use Rattle.decision.proofs.Choices.{when_true, when_false}
 use Rattle.wac.proofs.Tests.{and_true, false_and}

@@ -1,25 +1,9 @@
 -- `brings_by` meets its contract: the certificate fetched is the file's of that number, and each test on the way is one of the definition's.
-use mathlib.Core.Path.{◌≡◌, sym, ◌∙◌}
+use mathlib.Core.Path.{sym, ◌∙◌}
 use native.Mathlib.Omega.{arith}
-use borrow.Author.Rules.{rules}
-use borrow.Author.Tests.{not-true, not-false}
-use Rattle.wac.specs.File.{cert_at}
-use Rattle.wac.specs.Record.{Lawful}
-use mathlib.Core.List.{List}
-use Prim.Native.Nat.{ℕ, ◌<◌}
-use Rattle.wac.specs.View.{ReadAlone}
-use Rattle.wac.specs.declared.cert.Cert.{Cert}
-use Rattle.wac.specs.declared.view.Alone.{Alone}
-use Rattle.wac.specs.declared.view.Alone.TheVariants as alones
-use Rattle.wac.specs.File.{count_of}
-use Rattle.decision.specs.Engine.{Accepted}
 use Rattle.decision.proofs.FetchLaws.{fetched_lawful, fetched_same, fetched_refused}
 use Rattle.decision.proofs.WritingLaws.{read_fits, brings_not_live, brings_not_issuer, brings_not_left, brings_steps}
 use Rattle.decision.proofs.writing.brings_by.Goals as goal
-
--- what is known of the certificate
-known : {s : List ℕ} {n : ℕ} {r : Alone} {cert : Cert} → Accepted s → n < count_of s → ReadAlone s n r → r ≡ alones.Certificate cert → (cert ≡ cert_at s n) × Lawful cert
-known ok below from is = (fetched_same from ok below is, fetched_lawful from is)
 
 pub returns-in_default : goal.returns-in_default
 returns-in_default c =
@@ -28,24 +12,22 @@ returns-in_default c =
 
 pub returns-then-not-is_live : goal.returns-then-not-is_live
 returns-then-not-is_live c =
-    let same = (known c.requires.0.accepted c.requires.1 c.record_alone-found.ensures c.in-Certificate.is).0 in
+    let same = fetched_same c.record_alone-found.ensures c.requires.0.accepted c.requires.1 c.in-Certificate.is in
     brings_not_live _ _ _ _ _ _ _ _ _ same (sym c.is_live.ensures ∙ c.if-not-is_live.true)
 
 pub returns-then-cert-key : goal.returns-then-cert-key
 returns-then-cert-key c =
-    let same = (known c.requires.0.accepted c.requires.1 c.record_alone-found.ensures c.in-Certificate.is).0 in
+    let same = fetched_same c.record_alone-found.ensures c.requires.0.accepted c.requires.1 c.in-Certificate.is in
     brings_not_issuer _ _ _ _ _ _ _ _ _ same c.if-cert-key.true
 
 pub returns-then-cert-symbol : goal.returns-then-cert-symbol
 returns-then-cert-symbol c =
-    let same = (known c.requires.0.accepted c.requires.1 c.record_alone-found.ensures c.in-Certificate.is).0 in
+    let same = fetched_same c.record_alone-found.ensures c.requires.0.accepted c.requires.1 c.in-Certificate.is in
     brings_not_left _ _ _ _ _ _ _ _ _ same c.if-cert-symbol.true
 
 pub read_from-read-requires : goal.read_from-read-requires
 read_from-read-requires c =
-    let pre = c.requires in
-    let lawful = (known c.requires.0.accepted c.requires.1 c.record_alone-found.ensures c.in-Certificate.is).1 in
-    (pre.0.within, lawful.count, omega arith)
+    (c.requires.0.within, (fetched_lawful c.record_alone-found.ensures c.in-Certificate.is).count, omega arith)
 
 pub overflow_add-result : goal.overflow_add-result
 overflow_add-result c =
@@ -54,12 +36,11 @@ overflow_add-result c =
     omega (arith, c.read_from-read.ensures, read_fits a.floor a.table.now cert 0 cert.subject a.place)
 
 pub weight_at-requires : goal.weight_at-requires
-weight_at-requires c =
-    c.requires.0.within.long
+weight_at-requires c = c.requires.0.within.long
 
 pub returns : goal.returns
 returns c =
-    let same = (known c.requires.0.accepted c.requires.1 c.record_alone-found.ensures c.in-Certificate.is).0 in
+    let same = fetched_same c.record_alone-found.ensures c.requires.0.accepted c.requires.1 c.in-Certificate.is in
     brings_steps _ _ _ _ _ _ _ _ _ same _ _
     (sym c.is_live.ensures ∙ c.if-not-is_live.false)
     c.if-cert-key.false

@@ -1,9 +1,6 @@
-use mathlib.Core.Bool.{false}
-use mathlib.Core.Path.{◌≡◌, sym, ◌∙◌}
-use Prim.Native.Nat.{ℕ, ◌<◌, ◌≤◌, ◌-◌}
+use mathlib.Core.Path.{sym, ◌∙◌}
 use native.Mathlib.Omega.{arith}
 use borrow.Author.Count.{below_none, below_more}
-use Rattle.decision.specs.Writing.{brings}
 use Rattle.decision.specs.declared.lens.Lens.TheVariants.{Minutes}
 use Rattle.decision.proofs.RulesLaws.{rules_lawful}
 use Rattle.decision.proofs.WritingLaws.{brings_fact, bringing_some}

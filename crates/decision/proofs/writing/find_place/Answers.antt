@@ -1,9 +1,8 @@
-use Prim.Native.Nat.{ℕ, ◌+◌, ◌-◌, ◌<◌, ◌≤◌}
+use Prim.Native.Nat.{◌+◌}
 use native.Mathlib.Omega.{arith}
 use borrow.Author.Count.{below_none, below_more}
-use Rattle.wac.specs.Limits.{end_place}
 use Rattle.decision.proofs.ReadingLaws.{symbols_few}
-use Rattle.decision.proofs.WritingLaws.{Goes, at_fits, read_fits, place_sum, place_other, place_last}
+use Rattle.decision.proofs.WritingLaws.{at_fits, read_fits, place_sum, place_other, place_last}
 use Rattle.decision.proofs.writing.find_place.Goals as goal
 
 pub symbol_at-symbol-requires : goal.symbol_at-symbol-requires

@@ -1,15 +1,12 @@
 -- `find_place` meets its contract. The invariant: to no place passed does the symbol go in a best reading; so, after the keys, it goes to the end.
 -- The measure is what is left of the places.
-use Prim.Native.Nat.{ℕ, ◌+◌, ◌-◌, ◌<◌, ◌≤◌}
-use native.Mathlib.Omega.{arith}
-use borrow.Author.Count.{below_none, below_more}
+use Prim.Native.Nat.{ℕ, ◌-◌, ◌<◌, ◌≤◌}
 use Rattle.wac.specs.Limits.{end_place}
-use Rattle.decision.proofs.ReadingLaws.{symbols_few}
-use Rattle.decision.proofs.WritingLaws.{Goes, at_fits, read_fits, place_sum, place_other, place_last}
+use Rattle.decision.proofs.WritingLaws.{Goes}
 use Rattle.decision.proofs.writing.find_place.Given as goal
 
 abbrev pub invariant-loop-place : goal.invariant-loop-place
-invariant-loop-place l =     (l.place ≤ end_place) × ((p : ℕ) → p < l.place → Goes l.floor l.table l.cert l.j l.from l.to p → ⊥)
+invariant-loop-place l = (l.place ≤ end_place) × ((p : ℕ) → p < l.place → Goes l.floor l.table l.cert l.j l.from l.to p → ⊥)
 
 abbrev pub decreases-loop-place : goal.decreases-loop-place
 decreases-loop-place l = end_place - l.place
