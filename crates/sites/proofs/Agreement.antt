@@ -33,7 +33,7 @@ use Rattle.sites.specs.declared.site.NoteRefused.{NoteRefused}
 use Rattle.sites.specs.declared.site.Taken.TheVariants as takens
 use Rattle.sites.specs.declared.site.Taking.{Taking}
 use Rattle.sites.proofs.Ledgers.{ledger, note_of, Standing, follows}
-use Rattle.sites.proofs.Sending.{rest_tables, tables_rest}
+use Rattle.sites.proofs.SendingLaws.{rest_tables, tables_rest}
 use Rattle.sites.proofs.Following.{InOrder, begun_order, Followed, followed, follow_steps}
 use Rattle.sites.proofs.Running.{exchanges_steps, reached_on, reached_swap}
 use Rattle.sites.proofs.Exchanging.{exchanges_rules}

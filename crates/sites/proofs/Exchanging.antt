@@ -30,7 +30,7 @@ use Rattle.sites.specs.declared.site.Taken.{Taken}
 use Rattle.sites.specs.declared.site.Taken.TheVariants as takens
 use Rattle.sites.proofs.SiteLaws.{few_bytes}
 use Rattle.sites.proofs.Ledgers.{ledger, note_of, said_by, table_number, site_works, follows}
-use Rattle.sites.proofs.Sending.{reply_read}
+use Rattle.sites.proofs.SendingLaws.{reply_read}
 use Rattle.sites.proofs.Following.{system, InOrder, Followed, followed_swap, first_sendable, follow_steps}
 
 -- a note taken in an act was taken before, or is the one that was brought and not refused

@@ -50,7 +50,7 @@ use Rattle.sites.specs.declared.site.Taken.TheVariants as takens
 use Rattle.sites.specs.declared.site.Taking.{Taking}
 use Rattle.sites.proofs.SiteLaws.{few_bytes}
 use Rattle.sites.proofs.Ledgers.{ledger, note_of, Standing, Honest, AllHonest, honest_more, site_works, follows}
-use Rattle.sites.proofs.Sending.{due_tables, sent_note_of, Sendable, raise_honest, raise_says}
+use Rattle.sites.proofs.SendingLaws.{due_tables, sent_note_of, Sendable, raise_honest, raise_says}
 
 -- a site and its notes, as the rules see them
 abbrev pub party : Party → line.Party

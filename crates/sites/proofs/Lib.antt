@@ -3,7 +3,7 @@ pub mod SiteLaws  -- laws of the sites' functions
 pub mod Unique  -- two results that meet a contract are the same
 pub mod NoteLaws  -- a note's bytes say the note
 pub mod Ledgers  -- what the functions make of a site is what the note rules make of its tables
-pub mod Sending  -- the notes that a site writes
+pub mod SendingLaws  -- the notes that a site writes
 pub mod Following  -- two sites on the line do what the note rules say of their tables
 pub mod Running  -- full exchanges are runs, and a turn once had stays had
 pub mod Exchanging  -- full exchanges of two sites are full exchanges of the rules

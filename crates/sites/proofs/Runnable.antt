@@ -28,7 +28,7 @@ use Rattle.sites.specs.declared.site.Taken.TheVariants as takens
 use Rattle.sites.specs.declared.site.Sending.TheVariants as sendings
 use Rattle.sites.proofs.SiteLaws.{send_given}
 use Rattle.sites.proofs.Ledgers.{Standing}
-use Rattle.sites.proofs.Sending.{sent_note_of}
+use Rattle.sites.proofs.SendingLaws.{sent_note_of}
 use Rattle.sites.proofs.Following.{InOrder, begun_order, followed}
 use Rattle.sites.proofs.Running.{half_steps, reached_on, reached_swap}
 use Rattle.sites.proofs.Turning.{Turned, turned_work, turned_reached, turned_nothing, turned_half, raise_given, raise_reply, receipt_given, Delivered, turned_note}

@@ -25,7 +25,7 @@ use Rattle.sites.specs.declared.site.Sending.TheVariants as sendings
 use Rattle.sites.proofs.SiteLaws.{taken_raise, taken_receipt}
 use Rattle.sites.proofs.Unique.{taken_apart}
 use Rattle.sites.proofs.NoteLaws.{note_taken}
-use Rattle.sites.proofs.Sending.{Sendable, sent_note_of, sent_none_of, raise_read, raise_honest, reply_read, reply_honest}
+use Rattle.sites.proofs.SendingLaws.{Sendable, sent_note_of, sent_none_of, raise_read, raise_honest, reply_read, reply_honest}
 use Rattle.sites.proofs.Following.{begun_order, Followed, followed, first_sendable}
 use Rattle.sites.proofs.Running.{turn_stays, reached_on}
 

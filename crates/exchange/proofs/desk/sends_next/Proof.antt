@@ -2,7 +2,7 @@
 use mathlib.Core.Path.{refl}
 use native.Mathlib.Omega.{arith}
 use Rattle.exchange.specs.Acts.{SentNext}
-use Rattle.sites.proofs.Sending.{sent_above, never_short}
+use Rattle.sites.proofs.SendingLaws.{sent_above, never_short}
 use borrow.Author.Rules.{rules}
 use Rattle.exchange.proofs.desk.sends_next.Statement.{statement}
 use Rattle.exchange.proofs.desk.sends_next.Tie as tie

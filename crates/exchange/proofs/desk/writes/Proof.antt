@@ -2,7 +2,7 @@
 use mathlib.Core.Path.{refl}
 use native.Mathlib.Omega.{arith}
 use Rattle.exchange.specs.Acts.{Wrote}
-use Rattle.sites.proofs.Sending.{never_short}
+use Rattle.sites.proofs.SendingLaws.{never_short}
 use borrow.Author.Rules.{rules}
 use Rattle.exchange.proofs.desk.writes.Statement.{statement}
 use Rattle.exchange.proofs.desk.writes.Tie as tie

@@ -1,0 +1,7 @@
+-- `site_on` meets its contract: the file is copied, and the minutes are those of the start.
+use borrow.Author.Rules.{rules}
+use Rattle.sites.proofs.SiteLaws.{opened_with}
+use Rattle.sites.proofs.site.site_on.Goals as goal
+
+pub returns : goal.returns
+returns c = opened_with _ _ _ _ _ c.copy_bytes.ensures c.start_minutes-minutes.ensures

@@ -1,0 +1,67 @@
+-- `take` meets its contract: what becomes of the note, and then the site and the receipt.
+use mathlib.Core.Bool.{true}
+use mathlib.Core.Path.{◌≡◌, refl, sym, ap, ◌∙◌}
+use Prim.Native.Nat.{◌≤◌}
+use native.Mathlib.Omega.{arith}
+use borrow.Author.Rules.{rules}
+use lib.ListN.{length}
+use lib.Seq.{sets}
+use Rattle.wac.specs.Answers.{gives}
+use Rattle.sites.specs.Notes.{note_length, raise_kind, receipt_kind, note_from, note_bytes, formed}
+use Rattle.sites.specs.Site.{taken_as, entry_of, receipt_of, raised_site, receipted_site}
+use Rattle.sites.proofs.SiteLaws.{entry_low, taken_whole, takes_as}
+use Rattle.sites.proofs.site.take.Goals as goal
+
+a-raise : (c : tie.After-enum-told2) → InOrder c.before.before.before.before.before
+a-raise c =
+    let given : taken_as c.before.before.answer-for.result ≡ gives raise_kind = ap taken_as c.enum-told2.given.1 in
+    taken_whole _ _ _ _ (sym c.before.before.answer-for.ensures ∙ given)
+
+a-receipt : (c : tie.After-enum-told3) → InOrder c.before.before.before.before.before
+a-receipt c =
+    let given : taken_as c.before.before.answer-for.result ≡ gives receipt_kind = ap taken_as c.enum-told3.given.1 in
+    taken_whole _ _ _ _ (sym c.before.before.answer-for.ensures ∙ given)
+
+pub note_from-said-requires : goal.note_from-said-requires
+note_from-said-requires c = let t = a-raise c in omega arith
+
+pub raise_at-raised-requires : goal.raise_at-raised-requires
+raise_at-raised-requires c =
+    let e = c.entry_of.ensures ∙ ap entry_of c.note_from-said.ensures in
+    let l = entry_low _ (a-raise c.before.before).2 in
+    omega arith
+
+pub write_note-requires : goal.write_note-requires
+write_note-requires c = (a-raise c.before.before.before.before.before).0
+
+pub note_from-said-requires-in-Receipt : goal.note_from-said-requires-in-Receipt
+note_from-said-requires-in-Receipt c = let t = a-receipt c in omega arith
+
+pub receipt_at-told-requires : goal.receipt_at-told-requires
+receipt_at-told-requires c =
+    let e = c.entry_of-in-Receipt.ensures ∙ ap entry_of c.note_from-said-in-Receipt.ensures in
+    let l = entry_low _ (a-receipt c.before.before).2 in
+    omega arith
+
+pub returns-in-Refused : goal.returns-in-Refused
+returns-in-Refused c = takes_as c.in-Refused.is c.answer_for-answer.ensures refl refl
+
+pub returns-in-Raise : goal.returns-in-Raise
+returns-in-Raise c =
+    let args = c.args in
+    let said = c.note_from-said in
+    takes_as c.in-Raise.is c.answer_for-answer.ensures
+    (c.raise_at-raised.ensures
+    ∙ ap (λ e. raised_site args.site e said.result.minute) c.entry_of.ensures
+    ∙ ap (λ n. raised_site args.site (entry_of n) n.minute) said.ensures)
+    (c.write_note.ensures ∙ ap (λ n. sets args.receipt.now 0 (note_bytes n)) (c.receipt_of.ensures ∙ ap receipt_of said.ensures))
+
+pub returns-in-Receipt : goal.returns-in-Receipt
+returns-in-Receipt c =
+    let args = c.args in
+    let said = c.note_from-said-in-Receipt in
+    takes_as c.in-Receipt.is c.answer_for-answer.ensures
+    (c.receipt_at-told.ensures
+    ∙ ap (λ e. receipted_site args.site e said.result.minute) c.entry_of-in-Receipt.ensures
+    ∙ ap (λ n. receipted_site args.site (entry_of n) n.minute) said.ensures)
+    refl
