@@ -1,5 +1,5 @@
 -- A code loses nothing: the code of an exported function of the decision determines what came back, whatever was asked of which file.
-use mathlib.Core.Path.{◌≡◌, refl, sym, ap, ◌∙◌}
+use mathlib.Core.Path.{◌≡◌, sym, ap, ◌∙◌}
 use mathlib.Core.Bool.{Bool, true, false, cond}
 use mathlib.Core.List.{List, []}
 use Prim.Native.Nat.{ℕ, ◌<◌, ◌≤◌}
@@ -10,7 +10,7 @@ use lib.Seq.{ext_get_or}
 use Rattle.wac.specs.Limits.{keys, without_end}
 use Rattle.wac.specs.Bytes.{AreBytes}
 use Rattle.wac.specs.Answers.{Answer, gives, refuses}
-use Rattle.decision.specs.Question.{Reply, reply, reply_of, refusal_number, refusal_values, refusal_record, refused_as, request_of, shown_as, stocked_as, settling_as, Shows, Stocks}
+use Rattle.decision.specs.Question.{reply, reply_of, refusal_number, refusal_values, refusal_record, request_of, shown_as, stocked_as, settling_as, Shows, Stocks}
 use Rattle.decision.specs.declared.request.Request.{Request}
 use Rattle.decision.specs.declared.question.StockList.{StockList}
 use Rattle.decision.specs.declared.question.Settling.{Settling}

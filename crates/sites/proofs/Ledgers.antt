@@ -23,7 +23,7 @@ use Rattle.rewriting.proofs.Held.{repeated_held}
 use Rattle.decision.specs.Lens.{question_by}
 use Rattle.decision.specs.Usable.{rules_of}
 use Rattle.decision.specs.Table.{is_entry, number, key_of, symbol_of, arrival_of, table_of}
-use Rattle.decision.specs.Engine.{Within, held, SettledFrom}
+use Rattle.decision.specs.Engine.{Within, SettledFrom}
 use Rattle.decision.specs.Question.{request_cases, settle_cases, Settles, asked}
 use Rattle.decision.specs.declared.request.Request.{Request}
 use Rattle.decision.specs.declared.lens.Lens.TheVariants.{Minutes}

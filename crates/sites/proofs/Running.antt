@@ -64,7 +64,7 @@ half_steps h = joined (Steps.more h.before (Step.step_a (Act.act_work h.worked h
 full_steps : {session : ℕ} {x y : System} → Full session x y → Steps session x y
 full_steps e = joined (half_steps e.there) (steps_swap (half_steps e.back))
 
-pub exchanges_steps : {session n : ℕ} {x y : System} → Exchanges session x n y → Steps session x y
+pub exchanges_steps : {session : ℕ} {x : System} {n : ℕ} {y : System} → Exchanges session x n y → Steps session x y
 exchanges_steps Exchanges.begin = Steps.none
 exchanges_steps (Exchanges.from_a on e) = joined (exchanges_steps on) (full_steps e)
 exchanges_steps (Exchanges.from_b on e) = joined (exchanges_steps on) (steps_swap (full_steps e))

@@ -1,6 +1,5 @@
 -- `checked_code` meets its contract: one code for each answer.
 use mathlib.Core.Path.{sym, ap, ◌∙◌}
-use borrow.Author.Rules.{rules}
 use Rattle.boundary.specs.Coded.{coded}
 use Rattle.wac.specs.File.{checked}
 use Rattle.boundary.proofs.checked_code.Goals as goal

@@ -1,6 +1,5 @@
 -- `fill` meets its contract: twelve stores from the first place on.
 use native.Mathlib.Omega.{arith}
-use borrow.Author.Rules.{rules}
 use lib.ListN.{length-set}
 use lib.Seq.{sets-eq}
 use Rattle.boundary.specs.Coded.{fields_of}

@@ -1,6 +1,5 @@
 -- `wac_append` meets its contract: what `wac::append` answers and leaves.
 use mathlib.Core.Path.{sym, ap, ◌∙◌}
-use borrow.Author.Rules.{rules}
 use Rattle.boundary.specs.Coded.{coded}
 use Rattle.wac.specs.Writer.{appended}
 use Rattle.boundary.proofs.wac_append.Goals as goal

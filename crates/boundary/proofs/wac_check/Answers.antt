@@ -1,6 +1,5 @@
 -- `wac_check` meets its contract: what `wac::check` answers, as one number.
 use mathlib.Core.Path.{ap, ◌∙◌}
-use borrow.Author.Rules.{rules}
 use Rattle.boundary.specs.Coded.{coded}
 use Rattle.boundary.proofs.wac_check.Goals as goal
 

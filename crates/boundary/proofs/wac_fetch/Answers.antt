@@ -2,7 +2,6 @@
 use mathlib.Core.Path.{◌≡◌, sym, ap, ◌∙◌}
 use mathlib.Core.List.{List, []}
 use Prim.Native.Nat.{ℕ, ◌<◌, ◌≤◌}
-use borrow.Author.Rules.{rules}
 use borrow.Author.Tests.{lt-ltb, le-ltb}
 use Rattle.boundary.specs.Coded.{fields, lent_cases, cert_coded, filled}
 use Rattle.wac.specs.Answers.{gives, refuses, first_of}

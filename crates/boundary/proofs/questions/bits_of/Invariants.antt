@@ -1,10 +1,7 @@
 -- `bits_of` meets its contract: the sum so far is that of the places from `key` on. The measure is `key`.
-use mathlib.Core.Path.{◌≡◌, sym, ap, ◌∙◌}
-use mathlib.Core.Bool.{cond}
-use Prim.Native.Nat.{ℕ, ◌≤◌, ◌+◌, ◌-◌}
-use native.Mathlib.Omega.{arith}
+use mathlib.Core.Path.{◌≡◌}
+use Prim.Native.Nat.{◌≤◌, ◌-◌}
 use Rattle.boundary.specs.Questions.{bits}
-use Rattle.boundary.proofs.BitsLaws.{bits_none, bits_more, bits_half}
 use Rattle.boundary.proofs.questions.bits_of.Given as goal
 
 abbrev pub invariant-loop-key : goal.invariant-loop-key

@@ -1,6 +1,5 @@
 -- `settling_code` meets its contract: one code for each answer.
 use mathlib.Core.Path.{sym, ap, ◌∙◌}
-use borrow.Author.Rules.{rules}
 use Rattle.boundary.specs.Questions.{long_code, settling_code}
 use Rattle.decision.specs.Question.{settling_as}
 use Rattle.boundary.proofs.questions.settling_code.Goals as goal

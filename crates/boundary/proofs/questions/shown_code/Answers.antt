@@ -1,6 +1,5 @@
 -- `shown_code` meets its contract: one code for each answer.
 use mathlib.Core.Path.{sym, ap, ◌∙◌}
-use borrow.Author.Rules.{rules}
 use Rattle.boundary.specs.Questions.{shown_code}
 use Rattle.decision.specs.Question.{shown_as}
 use Rattle.boundary.proofs.questions.shown_code.Goals as goal

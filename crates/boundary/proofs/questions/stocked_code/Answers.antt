@@ -1,6 +1,5 @@
 -- `stocked_code` meets its contract: one code for each answer.
 use mathlib.Core.Path.{sym, ap, ◌∙◌}
-use borrow.Author.Rules.{rules}
 use Rattle.boundary.specs.Coded.{code}
 use Rattle.boundary.specs.Questions.{stocked_code}
 use Rattle.decision.specs.Question.{stocked_as}

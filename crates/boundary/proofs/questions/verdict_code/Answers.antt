@@ -1,6 +1,5 @@
 -- `verdict_code` meets its contract: one code for each verdict.
 use mathlib.Core.Path.{sym, ap, ◌∙◌}
-use borrow.Author.Rules.{rules}
 use Rattle.boundary.specs.Questions.{wide_code, verdict_code}
 use Rattle.boundary.proofs.CodesQuestions.{refused_told}
 use Rattle.boundary.proofs.questions.verdict_code.Goals as goal

@@ -1,6 +1,5 @@
 -- `arrival_of` meets its contract: identifiers first, then the marks.
 use borrow.Author.Tests.{lt-ltb, le-ltb}
-use borrow.Author.Rules.{rules}
 use Rattle.decision.specs.Table.{arrival_of}
 use Rattle.sites.proofs.entry.arrival_of.Goals as goal
 

@@ -1,7 +1,6 @@
 -- `key_of` meets its contract: identifiers first, then the marks.
 use native.Mathlib.Omega.{arith}
 use borrow.Author.Tests.{lt-ltb, le-ltb}
-use borrow.Author.Rules.{rules}
 use Rattle.decision.specs.Table.{key_of}
 use Rattle.sites.proofs.entry.key_of.Goals as goal
 

@@ -1,7 +1,6 @@
 -- `symbol_of` meets its contract: identifiers first, then the marks.
 use native.Mathlib.Omega.{arith}
 use borrow.Author.Tests.{lt-ltb, le-ltb}
-use borrow.Author.Rules.{rules}
 use Rattle.decision.specs.Table.{symbol_of}
 use Rattle.sites.proofs.entry.symbol_of.Goals as goal
 

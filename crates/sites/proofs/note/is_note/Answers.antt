@@ -1,6 +1,5 @@
 -- `is_note` meets its contract: the length, and then the fields.
 use mathlib.Core.Path.{sym, ap, ◌∙◌}
-use borrow.Author.Rules.{rules}
 use Rattle.sites.specs.Notes.{formed}
 use Rattle.sites.proofs.SiteLaws.{wrong_length, right_length}
 use Rattle.sites.proofs.note.is_note.Goals as goal

@@ -1,5 +1,4 @@
 -- `note_from` meets its contract: each byte is read where the note holds it.
-use borrow.Author.Rules.{rules}
 use Rattle.sites.proofs.note.note_from.Goals as goal
 
 pub returns : goal.returns

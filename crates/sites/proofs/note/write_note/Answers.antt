@@ -1,6 +1,5 @@
 -- `write_note` meets its contract: the note's bytes are stored one after another.
 use native.Mathlib.Omega.{arith}
-use borrow.Author.Rules.{rules}
 use lib.ListN.{length-set}
 use Rattle.sites.proofs.note.write_note.Goals as goal
 
@@ -41,4 +40,4 @@ pub shape_of-to : goal.shape_of-to
 shape_of-to c = simp length-set
 
 pub returns : goal.returns
-returns c = simp (c.word_Bytes.ensures, c.word_bytes-minute.ensures)
+returns c = simp (c.word_bytes-session.ensures, c.word_bytes-minute.ensures)

@@ -1,8 +1,6 @@
 use mathlib.Core.Path.{◌≡◌, refl, ◌∙◌}
-use mathlib.Core.List.{◌++◌}
-use Prim.Native.Nat.{◌≤◌, ◌-◌}
 use native.Mathlib.Omega.{arith}
-use lib.ListN.{length, length-set, take, drop}
+use lib.ListN.{length, length-set}
 use lib.Seq.{take-length}
 use Rattle.sites.proofs.SiteLaws.{copied_more}
 use Rattle.sites.proofs.site.copy_bytes.Goals as goal

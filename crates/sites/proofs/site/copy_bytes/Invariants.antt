@@ -1,11 +1,8 @@
 -- `copy_bytes` meets its contract. The loop's invariant: the bytes passed are copied, and the rest is as it was. The measure is what is left.
-use mathlib.Core.Path.{◌≡◌, refl, ◌∙◌}
+use mathlib.Core.Path.{◌≡◌}
 use mathlib.Core.List.{◌++◌}
 use Prim.Native.Nat.{◌≤◌, ◌-◌}
-use native.Mathlib.Omega.{arith}
-use lib.ListN.{length, length-set, take, drop}
-use lib.Seq.{take-length}
-use Rattle.sites.proofs.SiteLaws.{copied_more}
+use lib.ListN.{length, take, drop}
 use Rattle.sites.proofs.site.copy_bytes.Given as goal
 
 abbrev pub invariant-loop-i : goal.invariant-loop-i

@@ -1,7 +1,6 @@
 -- `next` meets its contract: the note of the lowest entry that is due.
 use mathlib.Core.Path.{refl, sym, ap, ◌∙◌}
 use borrow.Author.Tests.{lt-ltb}
-use borrow.Author.Rules.{rules}
 use lib.Seq.{sets}
 use Rattle.wac.proofs.Cases.{first_holds}
 use Rattle.sites.specs.Notes.{note_bytes}

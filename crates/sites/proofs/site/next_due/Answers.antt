@@ -1,11 +1,9 @@
 use mathlib.Core.Path.{◌≡◌}
 use mathlib.Core.Logic.{⊎_elim}
-use Prim.Native.Nat.{ℕ, ◌<◌, ◌≤◌, ◌-◌}
+use Prim.Native.Nat.{◌≤◌}
 use native.Mathlib.Nat.{eq-or-lt_of_le}
 use native.Mathlib.Omega.{arith}
 use borrow.Author.Rules.{rules}
-use Rattle.wac.specs.Limits.{entries}
-use Rattle.sites.specs.Site.{minute_at, receipted_at}
 use Rattle.sites.proofs.site.next_due.Goals as goal
 
 pub loop-entry-init : goal.loop-entry-init

@@ -1,10 +1,5 @@
 -- `next_due` meets its contract. The loop's invariant: no entry passed is due. The measure is what is left.
-use mathlib.Core.Path.{◌≡◌}
-use mathlib.Core.Logic.{⊎_elim}
 use Prim.Native.Nat.{ℕ, ◌<◌, ◌≤◌, ◌-◌}
-use native.Mathlib.Nat.{eq-or-lt_of_le}
-use native.Mathlib.Omega.{arith}
-use borrow.Author.Rules.{rules}
 use Rattle.wac.specs.Limits.{entries}
 use Rattle.sites.specs.Site.{minute_at, receipted_at}
 use Rattle.sites.proofs.site.next_due.Given as goal

@@ -1,6 +1,5 @@
 -- `open` meets its contract: refused with a blank site, or the site.
 use mathlib.Core.Path.{sym, ap, ◌∙◌}
-use borrow.Author.Rules.{rules}
 use Rattle.wac.specs.Answers.{gives}
 use Rattle.decision.specs.Question.{admitted_as}
 use Rattle.decision.proofs.AskLaws.{admitted_ready}

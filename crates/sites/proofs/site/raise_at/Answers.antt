@@ -1,7 +1,6 @@
 -- `raise_at` meets its contract: both minutes of the entry become the greater, and a rise wakes the site.
 use Prim.Native.Nat.{◌≤◌, ◌<◌}
 use borrow.Author.Tests.{lt-leb, le-leb}
-use borrow.Author.Rules.{rules}
 use Rattle.sites.specs.Site.{minute_at}
 use Rattle.sites.proofs.site.raise_at.Goals as goal
 

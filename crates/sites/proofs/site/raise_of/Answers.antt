@@ -1,5 +1,4 @@
 -- `raise_of` meets its contract: the entry's key, symbol, place and minute.
-use borrow.Author.Rules.{rules}
 use Rattle.sites.proofs.site.raise_of.Goals as goal
 
 pub returns : goal.returns

@@ -1,5 +1,4 @@
 -- `receipt_at` meets its contract: the receipted minute of the entry becomes the greater.
-use borrow.Author.Rules.{rules}
 use Rattle.sites.proofs.site.receipt_at.Goals as goal
 
 pub returns : goal.returns

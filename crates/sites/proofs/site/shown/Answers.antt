@@ -1,6 +1,5 @@
 -- `shown` meets its contract: the owner's mark 10 entry, and 0 where there is no such entry.
 use native.Mathlib.Omega.{arith}
-use borrow.Author.Rules.{rules}
 use Rattle.sites.specs.Site.{showing}
 use Rattle.sites.proofs.SiteLaws.{table_none, table_there}
 use Rattle.sites.proofs.site.shown.Goals as goal
@@ -9,10 +8,10 @@ pub returns-then-entry-ge-ENTRIES : goal.returns-then-entry-ge-ENTRIES
 unfolding showing
 returns-then-entry-ge-ENTRIES c =
     let e = c.entry_number-entry.ensures in
-    rw (table_none c.args.t1.request.owner 10 16 c.args.t1.minutes (omega (arith, c.if-entry-ge-ENTRIES.true)))
+    rw (table_none c.args.site.request.owner 10 16 c.args.site.minutes (omega (arith, c.if-entry-ge-ENTRIES.true)))
 
 pub returns : goal.returns
 unfolding showing
 returns c =
     let e = c.entry_number-entry.ensures in
-    rw (table_there c.args.t1.request.owner 10 16 c.args.t1.minutes (omega (arith, c.if-entry-ge-ENTRIES.false)), ← e)
+    rw (table_there c.args.site.request.owner 10 16 c.args.site.minutes (omega (arith, c.if-entry-ge-ENTRIES.false)), ← e)

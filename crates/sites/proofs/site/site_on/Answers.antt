@@ -1,5 +1,4 @@
 -- `site_on` meets its contract: the file is copied, and the minutes are those of the start.
-use borrow.Author.Rules.{rules}
 use Rattle.sites.proofs.SiteLaws.{opened_with}
 use Rattle.sites.proofs.site.site_on.Goals as goal
 

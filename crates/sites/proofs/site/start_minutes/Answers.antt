@@ -2,7 +2,6 @@
 use mathlib.Core.Logic.{inl, inr}
 use mathlib.Core.Path.{refl}
 use native.Mathlib.Omega.{arith}
-use borrow.Author.Rules.{rules}
 use Rattle.sites.proofs.SiteLaws.{mark_low, start_set}
 use Rattle.sites.proofs.site.start_minutes.Goals as goal
 

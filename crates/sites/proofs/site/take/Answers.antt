@@ -3,44 +3,45 @@ use mathlib.Core.Bool.{true}
 use mathlib.Core.Path.{◌≡◌, refl, sym, ap, ◌∙◌}
 use Prim.Native.Nat.{◌≤◌}
 use native.Mathlib.Omega.{arith}
-use borrow.Author.Rules.{rules}
 use lib.ListN.{length}
 use lib.Seq.{sets}
 use Rattle.wac.specs.Answers.{gives}
-use Rattle.sites.specs.Notes.{note_length, raise_kind, receipt_kind, note_from, note_bytes, formed}
+use Rattle.sites.specs.Notes.{note_length, note_from, note_bytes, formed}
 use Rattle.sites.specs.Site.{taken_as, entry_of, receipt_of, raised_site, receipted_site}
+use mathlib.Core.List.{List}
+use Prim.Native.Nat.{ℕ}
+use Rattle.wac.specs.Answers.{first_of}
+use Rattle.sites.specs.Site.{note_cases}
+use Rattle.sites.specs.declared.site.Site.{Site}
+use Rattle.sites.specs.declared.site.Taken.{Taken}
 use Rattle.sites.proofs.SiteLaws.{entry_low, taken_whole, takes_as}
 use Rattle.sites.proofs.site.take.Goals as goal
 
-a-raise : (c : tie.After-enum-told2) → InOrder c.before.before.before.before.before
-a-raise c =
-    let given : taken_as c.before.before.answer-for.result ≡ gives raise_kind = ap taken_as c.enum-told2.given.1 in
-    taken_whole _ _ _ _ (sym c.before.before.answer-for.ensures ∙ given)
-
-a-receipt : (c : tie.After-enum-told3) → InOrder c.before.before.before.before.before
-a-receipt c =
-    let given : taken_as c.before.before.answer-for.result ≡ gives receipt_kind = ap taken_as c.enum-told3.given.1 in
-    taken_whole _ _ _ _ (sym c.before.before.answer-for.ensures ∙ given)
+-- bytes that are taken have room for a receipt, and are a note
+whole : (x : Site) (bytes : List ℕ) {room k : ℕ} (answer : Taken) →
+    taken_as answer ≡ first_of (note_cases x bytes room) (note_from bytes).kind → taken_as answer ≡ gives k →
+    (note_length ≤ room) × (length bytes ≡ note_length) × (formed (note_from bytes) ≡ true)
+whole x bytes answer from given = taken_whole _ _ _ _ (sym from ∙ given)
 
 pub note_from-said-requires : goal.note_from-said-requires
-note_from-said-requires c = let t = a-raise c in omega arith
+note_from-said-requires c = let t = whole _ _ _ c.answer_for-answer.ensures (ap taken_as c.in-Raise.is) in omega arith
 
 pub raise_at-raised-requires : goal.raise_at-raised-requires
 raise_at-raised-requires c =
     let e = c.entry_of.ensures ∙ ap entry_of c.note_from-said.ensures in
-    let l = entry_low _ (a-raise c.before.before).2 in
+    let l = entry_low _ (whole _ _ _ c.answer_for-answer.ensures (ap taken_as c.in-Raise.is)).2 in
     omega arith
 
 pub write_note-requires : goal.write_note-requires
-write_note-requires c = (a-raise c.before.before.before.before.before).0
+write_note-requires c = (whole _ _ _ c.answer_for-answer.ensures (ap taken_as c.in-Raise.is)).0
 
 pub note_from-said-requires-in-Receipt : goal.note_from-said-requires-in-Receipt
-note_from-said-requires-in-Receipt c = let t = a-receipt c in omega arith
+note_from-said-requires-in-Receipt c = let t = whole _ _ _ c.answer_for-answer.ensures (ap taken_as c.in-Receipt.is) in omega arith
 
 pub receipt_at-told-requires : goal.receipt_at-told-requires
 receipt_at-told-requires c =
     let e = c.entry_of-in-Receipt.ensures ∙ ap entry_of c.note_from-said-in-Receipt.ensures in
-    let l = entry_low _ (a-receipt c.before.before).2 in
+    let l = entry_low _ (whole _ _ _ c.answer_for-answer.ensures (ap taken_as c.in-Receipt.is)).2 in
     omega arith
 
 pub returns-in-Refused : goal.returns-in-Refused
