@@ -5,11 +5,11 @@
 // that fails is no question, and gets no line.
 #![tactic(auto)]
 
-fn main() {
+fn main(rt: HostRuntime) {
     let mut question = io::buffer();
-    let input = lines::read_input(&mut question);
+    let input = lines::read_input(&rt, &mut question);
     let count = input.count;
     if !input.failed {
-        lines::answer(&question[..count]);
+        lines::answer(&rt, &question[..count]);
     }
 }

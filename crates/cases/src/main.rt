@@ -13,29 +13,30 @@ fn length_of(high: u8, low: u8) -> usize
 }
 
 // Reads a question that fills the lent bytes and answers it, and says whether both could be done.
-fn answer_in(question: &mut [u8]) -> bool {
-    if lines::read_input(question).count < question.len() {
+fn answer_in(rt: &HostRuntime, question: &mut [u8]) -> bool {
+    if lines::read_input(rt, question).count < question.len() {
         return false;
     }
-    lines::answer(question).whole
+    lines::answer(rt, question).whole
 }
 
 // Reads one question's length, answers the question, and says whether there was one.
-fn answer_next() -> bool {
+fn answer_next(rt: &HostRuntime) -> bool {
     let mut head = [0u8; 2];
-    if lines::read_input(&mut head).count < 2 {
+    if lines::read_input(rt, &mut head).count < 2 {
         return false;
     }
     let length = length_of(head[0], head[1]);
     let mut question = io::large_buffer();
-    answer_in(&mut question[..length])
+    answer_in(rt, &mut question[..length])
 }
 
-// A proved loop has to end, and nothing says that the input does. So the loop counts its turns down,
-// from a number that no run uses up.
-fn main() {
-    let mut turns = u64::MAX;
-    while turns > 0 && answer_next() {
-        turns -= 1;
+// A proved loop has to end, and nothing says that the input does. So the loop counts its turns, to a
+// number that no run uses up.
+fn main(rt: HostRuntime) {
+    for _ in 0..u64::MAX {
+        if !answer_next(&rt) {
+            return;
+        }
     }
 }

@@ -19,10 +19,11 @@ pub fn keep(notes: &mut [u8], count: usize, note: [u8; Note::BYTES]) -> usize
         return count;
     }
     let at = count * Note::BYTES;
-    if notes.len() < at + Note::BYTES {
+    let end = at + Note::BYTES;
+    if notes.len() < end {
         return count;
     }
-    bytes::copy(&note, &mut notes[at..]);
+    notes[at..end].copy_from_slice(&note);
     count + 1
 }
 
@@ -39,6 +40,6 @@ pub fn kept(notes: &[u8], number: usize) -> [u8; Note::BYTES]
     if notes.len() < end {
         return note;
     }
-    bytes::copy(&notes[at..end], &mut note);
+    note.copy_from_slice(&notes[at..end]);
     note
 }

@@ -39,11 +39,11 @@ struct Number {
     value: usize,
 }
 
-fn read_number() -> Number
+fn read_number(rt: &HostRuntime) -> Number
     ensures { result.value < 65536 }
 {
     let mut bytes = [0u8; 2];
-    if lines::read_input(&mut bytes).count < 2 {
+    if lines::read_input(rt, &mut bytes).count < 2 {
         return Number {
             whole: false,
             value: 0,
@@ -56,10 +56,10 @@ fn read_number() -> Number
 }
 
 // A file from standard input after its length: the length, and whether it was there.
-fn read_file(file: &mut [u8]) -> Number
+fn read_file(rt: &HostRuntime, file: &mut [u8]) -> Number
     ensures { result.value < 65536 }
 {
-    let length = read_number();
+    let length = read_number(rt);
     if !length.whole {
         return length;
     }
@@ -67,7 +67,7 @@ fn read_file(file: &mut [u8]) -> Number
     if file.len() < value {
         return length;
     }
-    let input = lines::read_input(&mut file[..value]);
+    let input = lines::read_input(rt, &mut file[..value]);
     Number {
         whole: input.count == value,
         value: value,
@@ -102,8 +102,8 @@ fn acted(done: Done) -> Turn {
 }
 
 // An act of the first site with a number after it.
-fn numbered(desk: Desk, kind: u8, first: &mut [u8], second: &mut [u8]) -> Turn {
-    let number = read_number();
+fn numbered(rt: &HostRuntime, desk: Desk, kind: u8, first: &mut [u8], second: &mut [u8]) -> Turn {
+    let number = read_number(rt);
     if !number.whole {
         return ended(desk);
     }
@@ -114,16 +114,16 @@ fn numbered(desk: Desk, kind: u8, first: &mut [u8], second: &mut [u8]) -> Turn {
 }
 
 // A note from standard input is brought to the first site.
-fn brought(desk: Desk, first: &mut [u8]) -> Turn {
+fn brought(rt: &HostRuntime, desk: Desk, first: &mut [u8]) -> Turn {
     let mut note = [0u8; Note::BYTES];
-    if lines::read_input(&mut note).count < Note::BYTES {
+    if lines::read_input(rt, &mut note).count < Note::BYTES {
         return ended(desk);
     }
     acted(desk::brings(desk, note, first))
 }
 
 // An act of the first site: works, writes, has a note brought to the other, exchanges, is brought a note.
-fn act_first(desk: Desk, kind: u8, first: &mut [u8], second: &mut [u8]) -> Turn {
+fn act_first(rt: &HostRuntime, desk: Desk, kind: u8, first: &mut [u8], second: &mut [u8]) -> Turn {
     if kind == 0 {
         return acted(desk::works(desk));
     }
@@ -131,20 +131,20 @@ fn act_first(desk: Desk, kind: u8, first: &mut [u8], second: &mut [u8]) -> Turn 
         return acted(desk::exchanges(desk, first, second));
     }
     if kind == 4 {
-        return brought(desk, first);
+        return brought(rt, desk, first);
     }
     if kind == 1 || kind == 2 {
-        return numbered(desk, kind, first, second);
+        return numbered(rt, desk, kind, first, second);
     }
     ended(desk)
 }
 
 // An act: the even ones are A's, the odd ones B's.
-fn act_on(desk: Desk, act: u8, a: &mut [u8], b: &mut [u8]) -> Turn {
+fn act_on(rt: &HostRuntime, desk: Desk, act: u8, a: &mut [u8], b: &mut [u8]) -> Turn {
     if act % 2 == 0 {
-        return act_first(desk, act / 2, a, b);
+        return act_first(rt, desk, act / 2, a, b);
     }
-    let turn = act_first(desk::swapped(desk), act / 2, b, a);
+    let turn = act_first(rt, desk::swapped(desk), act / 2, b, a);
     let done = turn.done;
     let after = done.desk;
     let outcome = done.outcome;
@@ -159,26 +159,26 @@ fn act_on(desk: Desk, act: u8, a: &mut [u8], b: &mut [u8]) -> Turn {
 }
 
 // Prints the line after an act, and says whether it could.
-fn tells(done: Done) -> bool {
+fn tells(rt: &(impl Print + Eprint), done: Done) -> bool {
     let desk = done.desk;
     let outcome = done.outcome;
     let a = desk.first;
     let b = desk.second;
     let mut line = [0u8; Line::ROOM];
     let lined = lines::act_line(a, b, outcome, &mut line);
-    lines::print(lined, &line).whole
+    lines::print(rt, lined, &line).whole
 }
 
 // Prints the line of two sites that were not opened.
-fn declines(why: Unopened) {
+fn declines(rt: &(impl Print + Eprint), why: Unopened) {
     let mut line = [0u8; Line::ROOM];
     let lined = lines::opening_line(why, &mut line);
-    lines::print(lined, &line);
+    lines::print(rt, lined, &line);
 }
 
 // The acts, until the input ends or an act does not stand there whole. A proved loop has to end, and
-// nothing says that the input does: the loop counts its turns down, from a number that no run uses up.
-fn run(a: Site, b: Site) {
+// nothing says that the input does: the loop counts its turns, to a number that no run uses up.
+fn run(rt: &HostRuntime, a: Site, b: Site) {
     let mut a_notes = [0u8; mail::BYTES];
     let mut b_notes = [0u8; mail::BYTES];
     let mut desk = Desk {
@@ -187,17 +187,15 @@ fn run(a: Site, b: Site) {
         first_count: 0,
         second_count: 0,
     };
-    let mut turns = u64::MAX;
-    while turns > 0 {
-        turns -= 1;
+    for _ in 0..u64::MAX {
         let mut act = [0u8; 1];
-        if lines::read_input(&mut act).count < 1 {
+        if lines::read_input(rt, &mut act).count < 1 {
             return;
         }
-        let turn = act_on(desk, act[0], &mut a_notes, &mut b_notes);
+        let turn = act_on(rt, desk, act[0], &mut a_notes, &mut b_notes);
         let done = turn.done;
         let after = done.desk;
-        if turn.ended || !tells(done) {
+        if turn.ended || !tells(rt, done) {
             return;
         }
         desk = after;
@@ -205,7 +203,7 @@ fn run(a: Site, b: Site) {
 }
 
 // Opens A and then B, and runs the acts.
-fn open_both(head: &[u8], a_file: &[u8], b_file: &[u8])
+fn open_both(rt: &HostRuntime, head: &[u8], a_file: &[u8], b_file: &[u8])
     requires { 11 ≤ length head.now }
 {
     let at = wac::word_of(head[3], head[4], head[5], head[6]);
@@ -217,25 +215,25 @@ fn open_both(head: &[u8], a_file: &[u8], b_file: &[u8])
     let a_site = a.site;
     let b_site = b.site;
     if let Opened::Refused(why) = a_answer {
-        return declines(Unopened::First(why));
+        return declines(rt, Unopened::First(why));
     }
     if let Opened::Refused(why) = b_answer {
-        return declines(Unopened::Second(why));
+        return declines(rt, Unopened::Second(why));
     }
-    run(a_site, b_site);
+    run(rt, a_site, b_site);
 }
 
-fn main() {
+fn main(rt: HostRuntime) {
     let mut head = [0u8; HEAD];
     let mut a_file = io::large_buffer();
     let mut b_file = io::large_buffer();
-    let got = lines::read_input(&mut head).count;
-    let a = read_file(&mut a_file);
-    let b = read_file(&mut b_file);
+    let got = lines::read_input(&rt, &mut head).count;
+    let a = read_file(&rt, &mut a_file);
+    let b = read_file(&rt, &mut b_file);
     if got < HEAD || !a.whole || !b.whole {
-        return declines(Unopened::CutShort);
+        return declines(&rt, Unopened::CutShort);
     }
     let a_length = a.value;
     let b_length = b.value;
-    open_both(&head, &a_file[..a_length], &b_file[..b_length]);
+    open_both(&rt, &head, &a_file[..a_length], &b_file[..b_length]);
 }

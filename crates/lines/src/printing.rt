@@ -14,15 +14,15 @@ pub struct Printed {
 // Writes a line that stands at the front of the lent bytes to standard output; where that fails, it is
 // told on standard error. No contract can say what was written; what is said is how many of the bytes
 // were handed over.
-pub fn print(lined: Lined, line: &[u8]) -> Printed
+pub fn print(rt: &(impl Print + Eprint), lined: Lined, line: &[u8]) -> Printed
     ensures { result.length ≡ min (length_of lined) (length line.now) }
 {
     match lined {
         Lined::Length(end) => {
             let length = least(end, line.len());
-            let whole = io::write_all(libc::STDOUT_FILENO, &line[..length]);
+            let whole = rt.write_all(&line[..length]).is_ok();
             if !whole {
-                io::write_all(libc::STDERR_FILENO, b"standard output cannot be written\n");
+                let _ = rt.eprintln("standard output cannot be written");
             }
             Printed {
                 length: length,
@@ -37,10 +37,10 @@ pub fn print(lined: Lined, line: &[u8]) -> Printed
 }
 
 // Writes the line of a question's bytes to standard output.
-pub fn answer(question: &[u8]) -> Printed
+pub fn answer(rt: &(impl Print + Eprint), question: &[u8]) -> Printed
     ensures { Prints question.now result }
 {
     let mut line = [0u8; Line::ROOM];
     let lined = question_line(question, &mut line);
-    print(lined, &line)
+    print(rt, lined, &line)
 }
