@@ -13,7 +13,7 @@ use Rattle.sites.specs.Site.{Works, Takes, Sends, raise_of, receipt_of, bytes_af
 use Rattle.sites.specs.declared.note.Note.{Note}
 use Rattle.sites.specs.declared.site.Taking.{Taking}
 use Rattle.sites.specs.Line.{System, swapped, Reached}
-use Rattle.sites.specs.Exchange.{a_works, Half, Full}
+use Rattle.sites.specs.Exchange.{a_works}
 use Rattle.sites.specs.declared.site.Site.{Site}
 use Rattle.sites.specs.declared.site.Taken.{Taken}
 use Rattle.sites.specs.declared.site.Taken.TheVariants as takens

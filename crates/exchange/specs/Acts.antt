@@ -1,8 +1,7 @@
 -- What each act makes of two sites: document 01, "Two sites", by what the sites' own functions promise.
-use Rattle.std.specs.Prelude.{◌≡◌, Bool, true, false, List, [], ℕ, ◌+◌, ◌%◌}
+use Rattle.std.specs.Prelude.{◌≡◌, Bool, true, false, List, ℕ, ◌+◌, ◌%◌}
 use Rattle.wac.specs.Limits.{entries}
 use Rattle.decision.specs.declared.request.Request.{Request}
-use Rattle.sites.specs.Notes.{note_length}
 use Rattle.sites.specs.Site.{Works, Takes, Sends}
 use Rattle.sites.specs.Line.{System, Reached}
 use Rattle.sites.specs.Exchange.{Half, Full}

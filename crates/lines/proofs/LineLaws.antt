@@ -2,8 +2,8 @@
 use mathlib.Core.Path.{◌≡◌, refl, sym, ap, ◌∙◌}
 use mathlib.Core.Bool.{Bool}
 use mathlib.Core.Logic.{by_cases}
-use mathlib.Core.List.{List, [], ◌∷◌, ◌++◌, append_assoc, append-nil}
-use Prim.Native.Nat.{ℕ, zero, suc, ◌+◌, ◌*◌, ◌^◌, ◌≤◌, ◌<◌, min}
+use mathlib.Core.List.{List, [], ◌∷◌, ◌++◌, append-nil}
+use Prim.Native.Nat.{ℕ, zero, suc, ◌≤◌, min}
 use native.Mathlib.Nat.{min-eq_left, min-eq_right}
 use native.Mathlib.Decide.{dec_le}
 use native.Mathlib.Omega.{arith}
@@ -16,7 +16,7 @@ use Rattle.decision.specs.Question.{refusal_number, refusal_values, refusal_reco
 use Rattle.decision.specs.declared.question.Refused as questions
 use Rattle.decision.specs.declared.question.Refused.TheVariants.{File, Keys, Rights, Minute, Places}
 use Rattle.decision.specs.declared.question.Verdict.TheVariants as verdicts
-use Rattle.lines.specs.Text.{space, newline, decimal, fields, Put}
+use Rattle.lines.specs.Text.{newline, fields, Put}
 use Rattle.lines.specs.Question.{line_room, granted, refused, line, line_by, line_of, lined_as, length_of, Answers, cramped, short, asked, Prints}
 use Rattle.lines.specs.declared.question.Lined.{Lined}
 use Rattle.lines.specs.declared.question.Lined.TheVariants.{Length, Refused}

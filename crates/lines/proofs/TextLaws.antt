@@ -8,8 +8,9 @@ use native.Mathlib.Decide.{dec_le}
 use native.Mathlib.Numerals.{add-one}
 use native.Mathlib.Omega.{arith}
 use borrow.Author.Tests.{lt-ltb, le-ltb}
-use lib.ListN.{length, take, drop, get_or, length-append, length-drop, length-take, take-append-drop}
-use lib.Seq.{length-take-le, take_at, drop-append-add, drop-drop, take-suc, take_all}
+use lib.ListN.{length, take, drop, get_or, length-append, length-drop, length-take, take-append-drop, drop_of_length-le}
+use lib.Seq.{length-take-le, take_at, drop-append-add, drop-drop, take-suc, take_all, take-length}
+use borrow.Rule.Slice.PartMut.{mid_of, put_mid}
 use Rattle.io.specs.Digits.{last_digits, IsDigitCount}
 use Rattle.lines.specs.Text.{space, places, decimal, fields, Put}
 
@@ -96,6 +97,15 @@ length_digits (suc k) n = length-append (last_digits 10 k (n / 10)) _ ∙ omega 
 pub decimal_few : (j n : ℕ) → n < 10 ^ suc j → length (decimal n) ≤ suc j
 unfolding decimal
 decimal_few j n low = rw (length_digits (places 19 n) n) (places_few j 19 n low)
+
+-- a copy to the part from a place on is the piece put there
+pub put_part : (at : ℕ) (out word part : List ℕ) → at + length word ≤ length out →
+    part ≡ take (length word) word ++ drop (length word) (mid_of at (length out - at) out) →
+    put_mid at (length out - at) out part ≡ take at out ++ word ++ drop (at + length word) out
+put_part at out word part fits copied =
+    let all = take_all (length out - at) (drop at out) (omega (arith, length-drop at out)) in
+    let none = drop_of_length-le (drop at out) {i = length out - at} (omega (arith, length-drop at out)) in
+    rw (none, append-nil, copied, all, take-length, drop-drop, append_assoc)
 
 pub fields_append : (ms ns : List ℕ) → fields (ms ++ ns) ≡ fields ms ++ fields ns
 unfolding fields

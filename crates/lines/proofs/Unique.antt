@@ -1,11 +1,11 @@
 -- Two results that meet one statement about a line are the same, but for which shortest best chain a granted question's line gives (docs/EXCEPTIONS.md).
 use mathlib.Core.Path.{◌≡◌, refl, sym, ap, subst, ◌∙◌}
-use mathlib.Core.List.{List, [], ◌∷◌, ◌++◌}
+use mathlib.Core.List.{List, [], ◌∷◌}
 use Prim.Native.Nat.{ℕ}
 use native.Mathlib.Omega.{arith}
-use lib.ListN.{length, take, drop}
-use Rattle.wac.specs.Answers.{gives, refuses}
-use Rattle.decision.specs.Question.{Reply, reply, reply_of, ShortestBest}
+use lib.ListN.{take, drop}
+use Rattle.wac.specs.Answers.{gives}
+use Rattle.decision.specs.Question.{reply, reply_of, ShortestBest}
 use Rattle.decision.proofs.Unique.{ChainsAgree, everywhere, but_first, judged_unique}
 use Rattle.lines.specs.Text.{Put}
 use Rattle.lines.specs.Question.{request_bytes, request_in, line_of, lined_as, Asks, Answers, cramped, short, asked}

@@ -1,5 +1,5 @@
 -- The lines of two sites over a scripted line.
-use Rattle.std.specs.Prelude.{◌≡◌, Bool, true, false, cond, List, [], ◌∷◌, ◌++◌, ℕ, ◌<◌, ◌≤◌, length}
+use Rattle.std.specs.Prelude.{◌≡◌, cond, List, [], ◌∷◌, ◌++◌, ℕ, ◌<◌, ◌≤◌, length}
 use Rattle.wac.specs.Answers.{gives, refuses}
 use Rattle.decision.specs.Question.{refusal_number, refusal_record}
 use Rattle.decision.specs.declared.question.Refused.{Refused}
