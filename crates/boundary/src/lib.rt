@@ -12,6 +12,7 @@ ghost use Rattle.wac.specs.Answers.{first_of, number_of, record_of};
 ghost use Rattle.wac.specs.File.{file_cases, count_of, checked};
 ghost use Rattle.boundary.specs.Coded.{code, coded, cert_of, fields, fields_of, FetchCoded, AppendCoded};
 
+pub use questions::{decision_ask, decision_may, decision_settle, decision_short, decision_stock};
 use wac::{Appended, Cert, Checked, Fetched, Ids, Refusal};
 
 // How many fields a certificate has.

@@ -50,20 +50,8 @@ pub extern "C" fn wac_append(
     ensures { AppendCoded buffer.old used (cert_of kind issuer left subject count first second third mark rights not_before not_after) result buffer.new }
 {
     boundary::wac_append(
-        buffer,
-        used,
-        kind,
-        issuer,
-        left,
-        subject,
-        count,
-        first,
-        second,
-        third,
-        mark,
-        rights,
-        not_before,
-        not_after,
+        buffer, used, kind, issuer, left, subject, count, first, second, third, mark, rights,
+        not_before, not_after,
     )
 }
 

@@ -3,7 +3,6 @@ use mathlib.Core.Path.{◌≡◌}
 use mathlib.Core.Bool.{true}
 use Prim.Native.Nat.{ℕ, ◌≤◌}
 use native.Mathlib.Nat.{le_trans}
-use Rattle.rewriting.specs.Weighing.{minutes}
 use Rattle.rewriting.specs.Rewriting.{Rules, Question}
 use Rattle.rewriting.specs.Passes.{Table}
 use Rattle.rewriting.specs.Tables.{Last}

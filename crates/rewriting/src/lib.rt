@@ -1,3 +1,2 @@
 // No code here: the definitions are in specs/, the laws in proofs/.
 #![tactic(auto)]
-
