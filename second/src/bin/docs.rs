@@ -9,14 +9,18 @@ use std::path::{Path, PathBuf};
 use std::process::ExitCode;
 
 /// The folders and files whose words the documents may name.
-const SOURCES: [&str; 6] = [
+const SOURCES: [&str; 7] = [
     "crates",
     "second/src",
     "samples",
+    "tools",
     ".ci",
     "amurgosa",
     "crates.txt",
 ];
+
+/// The folder of a crate that the toolchain makes, which is no source.
+const MADE: &str = "out";
 
 /// Of these endings a file's text counts; of others only its name.
 const TEXTS: [&str; 8] = ["rt", "antt", "edit", "h", "c", "rs", "txt", ""];
@@ -24,21 +28,27 @@ const TEXTS: [&str; 8] = ["rt", "antt", "edit", "h", "c", "rs", "txt", ""];
 /// The document whose quoted statements are held to the sources.
 const QUOTING: &str = "docs/PROOFS.md";
 
-/// All files below a path, or the file itself.
+/// The document that also names what was and is no more, which is not held to the sources.
+const PAST: &str = "docs/PORT.md";
+
+/// All files below a path but those that the toolchain made, or the file itself.
 fn files_below(path: &Path, files: &mut Vec<PathBuf>) -> io::Result<()> {
     if path.is_file() {
         files.push(path.to_path_buf());
         return Ok(());
     }
     for entry in fs::read_dir(path)? {
-        files_below(&entry?.path(), files)?;
+        let entry = entry?.path();
+        if !entry.ends_with(MADE) {
+            files_below(&entry, files)?;
+        }
     }
     Ok(())
 }
 
 /// The words of a text: runs of letters, digits, and what names are joined with.
 fn words(text: &str) -> impl Iterator<Item = &str> {
-    text.split(|c: char| !(c.is_alphanumeric() || "_-′".contains(c)))
+    text.split(|c: char| !(c.is_alphanumeric() || "_-'".contains(c)))
         .filter(|word| !word.is_empty())
 }
 
@@ -147,6 +157,7 @@ fn run() -> io::Result<bool> {
     let sources = Sources::read()?;
     let mut documents = vec![PathBuf::from("README.md")];
     files_below(Path::new("docs"), &mut documents)?;
+    documents.retain(|document| document != Path::new(PAST));
     let (mut held, mut missing) = (0, 0);
     for document in documents {
         let (more, lost) = hold(&document, &sources)?;
