@@ -1,7 +1,7 @@
 #!/usr/bin/env python3
 """Spells the repository's own definitions and lemmas in snake case, once, after the toolchain's port.py.
 
-usage: python3 tools/respell.py        at the top of the repository, on the commit that port.py leaves
+usage: python3 tools/respell.py        at the top of the repository, on the tree that port.py leaves
 
 A name turns if a file of a crate's specs/ or proofs/ declares it (the files of a function's own proof aside) and it is
 written with a capital inside or with a dash: `recordBytes` becomes `record_bytes`, `judged-unique` `judged_unique`.
