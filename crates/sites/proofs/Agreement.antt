@@ -8,6 +8,7 @@ use Prim.Native.Nat.{ℕ, zero, suc, ◌≤◌}
 use native.Mathlib.Omega.{arith}
 use borrow.Author.Tests.{eq-eqb, ne_eqb}
 use lib.ListN.{length}
+use Rattle.std.specs.Prelude.{Err}
 use Rattle.wac.specs.Limits.{keys, delegate, end_place}
 use Rattle.rewriting.specs.Weighing.{minutes}
 use Rattle.rewriting.specs.Entries.{Lawful}
@@ -30,7 +31,6 @@ use Rattle.sites.specs.Line.{System, Steps, Reached, both_files, JointMinute, Jo
 use Rattle.sites.specs.Exchange.{Exchanges}
 use Rattle.sites.specs.declared.site.Site.{Site}
 use Rattle.sites.specs.declared.site.NoteRefused.{NoteRefused}
-use Rattle.sites.specs.declared.site.Taken.TheVariants as takens
 use Rattle.sites.specs.declared.site.Taking.{Taking}
 use Rattle.sites.proofs.Ledgers.{ledger, note_of, Standing, follows}
 use Rattle.sites.proofs.SendingLaws.{rest_tables, tables_rest}
@@ -46,7 +46,7 @@ shown_tables {x = x} st = ap (λ (q : Request). table_of 0 x.minutes q.owner del
 
 -- a site refuses none of these notes
 abbrev pub Accepts : Site → List (List ℕ) → Type 0
-Accepts x w = (b l l' : List ℕ) (r : Taking) (why : NoteRefused) → Memᴰ b w → note_length ≤ length l → Takes x b l r l' → r.answer ≡ takens.Refused why → ⊥
+Accepts x w = (b l l' : List ℕ) (r : Taking) (why : NoteRefused) → Memᴰ b w → note_length ≤ length l → Takes x b l r l' → r.answer ≡ Err why → ⊥
 
 module _ {f g : List ℕ} {q : Request} {session : ℕ} {x : System} (r : Reached f g q session x) where
   f_order : InOrder f q

@@ -8,6 +8,7 @@ use native.Mathlib.Nat.{le_trans}
 use native.Mathlib.Omega.{arith}
 use native.Mathlib.Decide.{dec_lt}
 use lib.ListN.{length}
+use Rattle.std.specs.Prelude.{Result, Ok, Err}
 use Rattle.wac.specs.Limits.{keys, entries, without_end}
 use Rattle.wac.specs.Answers.{refuses}
 use Rattle.wac.proofs.Cases.{gives_not_refuses}
@@ -26,18 +27,19 @@ use Rattle.sites.specs.Site.{taken_as, Takes, DueAt, minute_at, receipted_at, ra
 use Rattle.sites.specs.Line.{Act, System, Step, Steps}
 use Rattle.sites.specs.Exchange.{accepted, taken_a, Turn, Half, Full, Exchanges}
 use Rattle.sites.specs.declared.site.Site.{Site}
-use Rattle.sites.specs.declared.site.Taken.{Taken}
-use Rattle.sites.specs.declared.site.Taken.TheVariants as takens
+use Rattle.sites.specs.declared.note.NoteKind.{NoteKind}
+use Rattle.sites.specs.declared.site.NoteRefused.{NoteRefused}
+use Rattle.sites.specs.declared.note.NoteKind.TheVariants.{Raise, Receipt}
 use Rattle.sites.proofs.SiteLaws.{few_bytes}
 use Rattle.sites.proofs.Ledgers.{ledger, note_of, said_by, table_number, site_works, follows}
 use Rattle.sites.proofs.SendingLaws.{reply_read}
 use Rattle.sites.proofs.Following.{system, InOrder, Followed, followed_swap, first_sendable, follow_steps}
 
 -- a note taken in an act was taken before, or is the one that was brought and not refused
-accepted_in : (t : Taken) {b c : List ℕ} {ns : List (List ℕ)} → Memᴰ c (accepted t b ns) → Memᴰ c ns ⊎ ((c ≡ b) × ((n : ℕ) (vs : List ℕ) → taken_as t ≡ refuses n vs → ⊥))
-accepted_in takens.Raise j = ⊎_elim (λ e. inr (e, λ n vs. gives_not_refuses)) inl (Memᴰ.cases_cons j)
-accepted_in takens.Receipt j = ⊎_elim (λ e. inr (e, λ n vs. gives_not_refuses)) inl (Memᴰ.cases_cons j)
-accepted_in (takens.Refused why) j = inl j
+accepted_in : (t : Result NoteKind NoteRefused) {b c : List ℕ} {ns : List (List ℕ)} → Memᴰ c (accepted t b ns) → Memᴰ c ns ⊎ ((c ≡ b) × ((n : ℕ) (vs : List ℕ) → taken_as t ≡ refuses n vs → ⊥))
+accepted_in (Ok Raise) j = ⊎_elim (λ e. inr (e, λ n vs. gives_not_refuses)) inl (Memᴰ.cases_cons j)
+accepted_in (Ok Receipt) j = ⊎_elim (λ e. inr (e, λ n vs. gives_not_refuses)) inl (Memᴰ.cases_cons j)
+accepted_in (Err why) j = inl j
 
 module _ {f g : List ℕ} {q : Request} {session : ℕ} (word : session ≤ without_end) (f_order : InOrder f q) (g_order : InOrder g q) where
   -- what a site holds only grows
@@ -49,7 +51,7 @@ module _ {f g : List ℕ} {q : Request} {session : ℕ} (word : session ≤ with
 
   -- a receipt that a takes, for a minute that it held before, is receipted after
   module _ {x : System} (k : Followed f g q session x) {n s p m : ℕ} (e : Entry keys n s p) (held : m ≤ (ledger x.a.site).minute n s p) (c : List ℕ) (says : note_of c ≡ rules.receipt n s p m) where
-    brought : {y : System} (on : Steps session x y) {b l l' : List ℕ} {t : Taken} {z : Site} → c ≡ b → Memᴰ b y.b.wrote → Takes y.a.site b l (record { answer = t; site = z }) l' →
+    brought : {y : System} (on : Steps session x y) {b l l' : List ℕ} {t : Result NoteKind NoteRefused} {z : Site} → c ≡ b → Memᴰ b y.b.wrote → Takes y.a.site b l (record { answer = t; site = z }) l' →
         ((n : ℕ) (vs : List ℕ) → taken_as t ≡ refuses n vs → ⊥) → m ≤ (ledger z).receipted n s p
     brought {y} on {b} {l} {t = t} same j takes fine = by_cases (dec_lt (length l) note_length)
         (λ short. absurd (fine _ _ (takes.answer ∙ few_bytes y.a.site b (length l) (note_from b).kind short)))

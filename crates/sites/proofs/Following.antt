@@ -11,6 +11,7 @@ use borrow.Author.Tests.{ne_eqb, le-ltb}
 use lib.Dec.{ltb, eqb}
 use lib.ListN.{length, take, drop, replicate}
 use lib.Seq.{take_at, take_all}
+use Rattle.std.specs.Prelude.{⊤, Result, Ok, Err}
 use Rattle.wac.specs.Limits.{entries, without_end, largest_file}
 use Rattle.wac.specs.Answers.{gives, refuses, first_of}
 use Rattle.wac.specs.File.{count_of, file_cases}
@@ -44,9 +45,9 @@ use Rattle.sites.specs.Line.{Party, receipt_in, Act, System, Step, Steps, Begun,
 use Rattle.sites.specs.declared.note.Note.{Note}
 use Rattle.sites.specs.declared.site.Site.{Site}
 use Rattle.sites.specs.declared.site.Opening.{Opening}
-use Rattle.sites.specs.declared.site.Opened.TheVariants as opens
-use Rattle.sites.specs.declared.site.Taken.{Taken}
-use Rattle.sites.specs.declared.site.Taken.TheVariants as takens
+use Rattle.sites.specs.declared.note.NoteKind.{NoteKind}
+use Rattle.sites.specs.declared.site.NoteRefused.{NoteRefused}
+use Rattle.sites.specs.declared.note.NoteKind.TheVariants.{Raise, Receipt}
 use Rattle.sites.specs.declared.site.Taking.{Taking}
 use Rattle.sites.proofs.SiteLaws.{few_bytes}
 use Rattle.sites.proofs.Ledgers.{ledger, note_of, Standing, Honest, AllHonest, honest_more, site_works, follows}
@@ -66,10 +67,10 @@ pub record InOrder (s : List ℕ) (q : Request) : Type 0 where
 
 -- a note that is refused changes nothing
 module _ (x : Site) (n : Note) (l : List ℕ) (w : List (List ℕ)) where
-  pub refused_stays : (t : Taken) {m : ℕ} {vs : List ℕ} → taken_as t ≡ refuses m vs → (site_after t x n ≡ x) × (receipt_in t l w ≡ w) × (bytes_after t l n ≡ l)
-  refused_stays takens.Raise e = absurd (gives_not_refuses e)
-  refused_stays takens.Receipt e = absurd (gives_not_refuses e)
-  refused_stays (takens.Refused why) e = (refl, refl, refl)
+  pub refused_stays : (t : Result NoteKind NoteRefused) {m : ℕ} {vs : List ℕ} → taken_as t ≡ refuses m vs → (site_after t x n ≡ x) × (receipt_in t l w ≡ w) × (bytes_after t l n ≡ l)
+  refused_stays (Ok Raise) e = absurd (gives_not_refuses e)
+  refused_stays (Ok Receipt) e = absurd (gives_not_refuses e)
+  refused_stays (Err why) e = (refl, refl, refl)
 
 -- bytes that are no note of the site's session are refused
 pub foreign_refused : (x : Site) (b l : List ℕ) → (note_ok b ≡ true → (x.live && eqb (note_from b).session x.session) ≡ false) →
@@ -182,7 +183,7 @@ module _ {f g : List ℕ} {q : Request} {session : ℕ} (word : session ≤ with
 
 -- ---- opening
 
-ready_not : {why : Refused} → opens.Ready ≡ opens.Refused why → ⊥
+ready_not : {why : Refused} → ◌≡◌ {A = Result ⊤ Refused} (Ok tt) (Err why) → ⊥
 ready_not e = let z : ◌≡◌ {A = ℕ} 0 1 = cc in omega arith
 
 -- a site that is ready was opened with a file and a request in order, and stands
@@ -190,7 +191,7 @@ module _ {s : List ℕ} {q : Request} {session : ℕ} {p : Party} (begun : Begun
   opened_of : (first_of (file_cases s ++ request_cases q) (count_of s) ≡ gives (count_of s)) × (p.site ≡ opened_site s q session)
   opened_of = turn begun.opening refl
     where
-      turn : {r : Opening} → Opens s q session r → r.answer ≡ opens.Ready → (first_of (file_cases s ++ request_cases q) (count_of s) ≡ gives (count_of s)) × (r.site ≡ opened_site s q session)
+      turn : {r : Opening} → Opens s q session r → r.answer ≡ Ok tt → (first_of (file_cases s ++ request_cases q) (count_of s) ≡ gives (count_of s)) × (r.site ≡ opened_site s q session)
       turn (Opens.refused why case e) ready = absurd (ready_not (sym ready ∙ ap (λ (r : Opening). r.answer) e))
       turn (Opens.opened case e) ready = (case, ap (λ (r : Opening). r.site) e)
 

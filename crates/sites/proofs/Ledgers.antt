@@ -9,6 +9,7 @@ use native.Mathlib.Omega.{arith}
 use borrow.Author.Tests.{eqb-true, eq-eqb, ne_eqb, ltb-true, ltb-false, le-ltb, le-leb, lt-leb}
 use lib.Dec.{leb, ltb, eqb}
 use lib.ListN.{length, get_or, set, length-set}
+use Rattle.std.specs.Prelude.{Result, Ok, Err}
 use Rattle.wac.specs.Limits.{entries, without_end}
 use Rattle.wac.specs.Answers.{gives, refuses, ◌if◌, first_of}
 use Rattle.wac.specs.File.{count_of, file_cases}
@@ -37,8 +38,8 @@ use Rattle.sites.specs.Line.{receipt_in}
 use Rattle.sites.specs.declared.note.Note.{Note}
 use Rattle.sites.specs.declared.site.Site.{Site}
 use Rattle.sites.specs.declared.site.NoteRefused.{NoteRefused}
-use Rattle.sites.specs.declared.site.Taken.{Taken}
-use Rattle.sites.specs.declared.site.Taken.TheVariants as takens
+use Rattle.sites.specs.declared.note.NoteKind.{NoteKind}
+use Rattle.sites.specs.declared.note.NoteKind.TheVariants.{Raise, Receipt}
 use Rattle.sites.proofs.SiteLaws.{note_whole, this_session}
 use Rattle.sites.proofs.NoteLaws.{note_read_back, note_taken, Fields, formed_fields, fields_formed}
 
@@ -216,12 +217,12 @@ module _ (session : ℕ) (word : session ≤ without_end) (n : Note) (f : Fields
   }
 
 -- a note taken with room for a receipt: the site stands, its tables are what the rules make of them, and so is what it writes
-pub record Follows (s : List ℕ) (q : Request) (session : ℕ) (x : Site) (b : List ℕ) (t : Taken) (x' : Site) (l : List ℕ) : Type 0 where
+pub record Follows (s : List ℕ) (q : Request) (session : ℕ) (x : Site) (b : List ℕ) (t : Result NoteKind NoteRefused) (x' : Site) (l : List ℕ) : Type 0 where
   pub stands : Standing s q session x'
   pub tables : ledger x' ≡ (rules.take (note_of b) (ledger x)).ledger
   pub writes : (w : List (List ℕ)) → map note_of (receipt_in t l w) ≡ line.written (rules.take (note_of b) (ledger x)).answer (map note_of w)
   pub honest : (w : List (List ℕ)) → AllHonest session w → AllHonest session (receipt_in t l w)
-  pub refused : (why : NoteRefused) → t ≡ takens.Refused why → (rules.take (note_of b) (ledger x)).answer ≡ rules.late
+  pub refused : (why : NoteRefused) → t ≡ Err why → (rules.take (note_of b) (ledger x)).answer ≡ rules.late
 
 module _ {s : List ℕ} {q : Request} {session : ℕ} (word : session ≤ without_end) {x : Site} (st : Standing s q session x) {b : List ℕ} (h : Honest session b) (l : List ℕ) (room : note_length ≤ length l) where
   abbrev said : Note
@@ -263,10 +264,10 @@ module _ {s : List ℕ} {q : Request} {session : ℕ} (word : session ≤ withou
   after_late late = lt-leb _ _ (subst (λ v. v < said.minute) minute_said (ltb-true _ _ late))
 
   -- a site takes a note as the rules say
-  pub follows : (t : Taken) → taken_as t ≡ first_of (note_cases x b (length l)) said.kind → {x' : Site} → x' ≡ site_after t x said → {l' : List ℕ} → l' ≡ bytes_after t l said →
+  pub follows : (t : Result NoteKind NoteRefused) → taken_as t ≡ first_of (note_cases x b (length l)) said.kind → {x' : Site} → x' ≡ site_after t x said → {l' : List ℕ} → l' ≡ bytes_after t l said →
       Follows s q session x b t x' l'
   unfolding rules.take
-  follows takens.Raise answer at bytes = rw (at, bytes) (
+  follows (Ok Raise) answer at bytes = rw (at, bytes) (
       let kind = (given_late answer).1 in
       let taken = note_taken l (receipt_of said) room in
       let back = written_says session word (receipt_of said) reply h.fits h.of_session in
@@ -280,7 +281,7 @@ module _ {s : List ℕ} {q : Request} {session : ℕ} (word : session ≤ withou
     where
       reply : Fields (receipt_of said)
       reply = record { kind = refl; some = fields.some; symbol = fields.symbol; entry = fields.entry }
-  follows takens.Receipt answer at bytes = rw (at, bytes) (
+  follows (Ok Receipt) answer at bytes = rw (at, bytes) (
       let g = given_late answer in
       let on-time = on_time_of g.0 g.1 in
       record {
@@ -290,7 +291,7 @@ module _ {s : List ℕ} {q : Request} {session : ℕ} (word : session ≤ withou
         honest = λ w all. all;
         refused = λ why e. absurd (let z : ◌≡◌ {A = ℕ} 0 1 = cc in omega arith);
       })
-  follows (takens.Refused why) answer at bytes = rw (at, bytes) (
+  follows (Err why) answer at bytes = rw (at, bytes) (
       let late = and_both _ _ (refused_late answer) in
       let kind = eqb-true said.kind receipt_kind late.0 in
       let after = after_late late.1 in

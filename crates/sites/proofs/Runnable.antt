@@ -1,12 +1,12 @@
 -- A full exchange can always be run: from every state reached there is one.
 use mathlib.Core.Path.{◌≡◌, refl, sym, ap, ◌∙◌, subst₂}
 use mathlib.Core.List.{List, ◌++◌}
-use mathlib.Core.Option.{Option, none, some}
 use Prim.Native.Nat.{ℕ, zero, suc, ◌+◌, ◌≤◌}
 use native.Mathlib.Nat.{le_refl}
 use native.Mathlib.Omega.{arith}
 use lib.ListN.{length, drop, replicate, length-append, length-drop}
 use lib.Seq.{take_at, drop_at}
+use Rattle.std.specs.Prelude.{Option, Some, None, Ok}
 use Rattle.wac.specs.Limits.{entries}
 use Rattle.rewriting.specs.Passes.{Table, repeated, CountFrom}
 use Rattle.rewriting.proofs.Settling.{settles}
@@ -24,8 +24,7 @@ use Rattle.sites.specs.Site.{worked_site, Works, site_after, bytes_after, Takes,
 use Rattle.sites.specs.Line.{System, swapped, Reached}
 use Rattle.sites.specs.Exchange.{Half, Full}
 use Rattle.sites.specs.declared.site.Site.{Site}
-use Rattle.sites.specs.declared.site.Taken.TheVariants as takens
-use Rattle.sites.specs.declared.site.Sending.TheVariants as sendings
+use Rattle.sites.specs.declared.note.NoteKind.TheVariants.{Raise, Receipt}
 use Rattle.sites.proofs.SiteLaws.{send_given}
 use Rattle.sites.proofs.Ledgers.{Standing}
 use Rattle.sites.proofs.SendingLaws.{sent_note_of}
@@ -64,40 +63,40 @@ unfolding lent
 lent_room = le_refl _
 
 -- one note there and its receipt back, where an entry waits
-module _ {f g : List ℕ} {q : Request} {session : ℕ} {y : System} (r : Reached f g q session y) (from e : ℕ) (next : next_of y.a.site from ≡ some e) where
+module _ {f g : List ℕ} {q : Request} {session : ℕ} {y : System} (r : Reached f g q session y) (from e : ℕ) (next : next_of y.a.site from ≡ Some e) where
   abbrev note : List ℕ
   note = note_bytes (raise_of y.a.site e)
 
   abbrev reply : List ℕ
   reply = note_bytes (receipt_of (raise_of y.a.site e))
 
-  sends : Sends y.a.site from lent (sendings.Note e) (bytes_sent (sendings.Note e) y.a.site lent)
+  sends : Sends y.a.site from lent (Ok (Some e)) (bytes_sent (Ok (Some e)) y.a.site lent)
   sends = record { answer = send_given y.a.site from lent lent_room next; bytes = refl }
 
   pub above : from ≤ e
   above = let n = sent_note_of sends in (n.next.due n.low).0
 
-  delivery : Delivered y.a.site y.b.site from e note reply (site_after takens.Receipt y.a.site (note_from reply)) (site_after takens.Raise y.b.site (note_from note))
+  delivery : Delivered y.a.site y.b.site from e note reply (site_after (Ok Receipt) y.a.site (note_from reply)) (site_after (Ok Raise) y.b.site (note_from note))
   delivery =
       let n = sent_note_of sends in
       let due = (n.next.due n.low).1 in
-      let taken : Takes y.b.site note lent (record { answer = takens.Raise; site = site_after takens.Raise y.b.site (note_from note) }) (bytes_after takens.Raise lent (note_from note)) =
+      let taken : Takes y.b.site note lent (record { answer = Ok Raise; site = site_after (Ok Raise) y.b.site (note_from note) }) (bytes_after (Ok Raise) lent (note_from note)) =
       record { answer = raise_given r e n.low due (length lent) lent_room; site = refl; bytes = refl } in
       record {
         lent = lent;
-        written = bytes_sent (sendings.Note e) y.a.site lent;
+        written = bytes_sent (Ok (Some e)) y.a.site lent;
         sends = sends;
         note_is = n.bytes;
         b_lent = lent;
-        b_written = bytes_after takens.Raise lent (note_from note);
-        b_taking = record { answer = takens.Raise; site = site_after takens.Raise y.b.site (note_from note) };
+        b_written = bytes_after (Ok Raise) lent (note_from note);
+        b_taking = record { answer = Ok Raise; site = site_after (Ok Raise) y.b.site (note_from note) };
         b_room = lent_room;
         b_takes = taken;
         b_after = refl;
         receipt_is = raise_reply r e n.low due lent_room taken;
         a_lent = lent;
         a_written = lent;
-        a_taking = record { answer = takens.Receipt; site = site_after takens.Receipt y.a.site (note_from reply) };
+        a_taking = record { answer = Ok Receipt; site = site_after (Ok Receipt) y.a.site (note_from reply) };
         a_room = lent_room;
         a_takes = record { answer = receipt_given r e n.low due (length lent) lent_room; site = refl; bytes = refl };
         a_after = refl;
@@ -110,10 +109,10 @@ module _ {f g : List ℕ} {q : Request} {session : ℕ} {x : System} (r : Reache
 
   one_turn : {y : System} {from : ℕ} (o : Option ℕ) → next_of y.a.site from ≡ o → Turned session x y from →
       ((z : System) (e : ℕ) → from ≤ e → Turned session x z (e + 1) → Halved) → Halved
-  one_turn {y} {from} (some e) next t rest =
+  one_turn {y} {from} (Some e) next t rest =
       let k = turned_reached r t in
       rest _ e (above k from e next) (turned_note r t (delivery k from e next))
-  one_turn {y} {from} none next t rest =
+  one_turn {y} {from} None next t rest =
       (y, turned_half (le_refl _) (turned_nothing {l = lent} t (record { answer = send_given y.a.site from lent lent_room next; bytes = refl })))
 
   turns_run : (n : ℕ) (y : System) (from : ℕ) → entries ≤ n + from → Turned session x y from → Halved

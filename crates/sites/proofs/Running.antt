@@ -3,11 +3,13 @@
 use mathlib.Core.Path.{◌≡◌, refl, ap, ◌∙◌}
 use mathlib.Core.List.{List, Memᴰ}
 use Prim.Native.Nat.{ℕ}
+use Rattle.std.specs.Prelude.{Result, Ok, Err}
 use Rattle.decision.specs.declared.request.Request.{Request}
 use Rattle.sites.specs.Line.{Party, Act, System, swapped, Step, Steps, joined, Reached}
 use Rattle.sites.specs.Exchange.{accepted, took, taken_a, taken_b, Turn, Half, Full, Exchanges}
-use Rattle.sites.specs.declared.site.Taken.{Taken}
-use Rattle.sites.specs.declared.site.Taken.TheVariants as takens
+use Rattle.sites.specs.declared.note.NoteKind.{NoteKind}
+use Rattle.sites.specs.declared.site.NoteRefused.{NoteRefused}
+use Rattle.sites.specs.declared.note.NoteKind.TheVariants.{Raise, Receipt}
 
 joined_joined : {session : ℕ} {x y z u : System} (p : Steps session x y) (q : Steps session y z) (o : Steps session z u) →
     joined (joined p q) o ≡ joined p (joined q o)
@@ -16,10 +18,10 @@ joined_joined p q Steps.none = refl
 joined_joined p q (Steps.more o step) = ap (λ r. Steps.more r step) (joined_joined p q o)
 
 -- what was taken stays taken
-accepted_more : (t : Taken) (b : List ℕ) {c : List ℕ} {ns : List (List ℕ)} → Memᴰ c ns → Memᴰ c (accepted t b ns)
-accepted_more takens.Raise b j = Memᴰ.tail j
-accepted_more takens.Receipt b j = Memᴰ.tail j
-accepted_more (takens.Refused why) b j = j
+accepted_more : (t : Result NoteKind NoteRefused) (b : List ℕ) {c : List ℕ} {ns : List (List ℕ)} → Memᴰ c ns → Memᴰ c (accepted t b ns)
+accepted_more (Ok Raise) b j = Memᴰ.tail j
+accepted_more (Ok Receipt) b j = Memᴰ.tail j
+accepted_more (Err why) b j = j
 
 took_more : {session : ℕ} {theirs : List (List ℕ)} {c : List ℕ} {p q : Party} (act : Act session theirs p q) {ns : List (List ℕ)} →
     Memᴰ c ns → Memᴰ c (took act ns)

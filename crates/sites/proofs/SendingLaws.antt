@@ -1,13 +1,13 @@
 -- The notes that a site writes are those of the entries that wait, and a site rests if its tables do.
 use mathlib.Core.Path.{◌≡◌, refl, sym, ap, ◌∙◌, subst}
 use mathlib.Core.Bool.{true}
-use mathlib.Core.Option.{Option, none, some}
 use mathlib.Core.List.{List}
 use Prim.Native.Nat.{ℕ, ◌≤◌, ◌<◌}
 use native.Mathlib.Omega.{arith}
 use borrow.Author.Tests.{le-leb, leb-true, ltb-false}
 use lib.Dec.{leb}
 use lib.ListN.{length, take}
+use Rattle.std.specs.Prelude.{Option, Some, None, Result, Ok, Err}
 use Rattle.wac.specs.Limits.{keys, entries, delegate, without_end}
 use Rattle.wac.specs.Answers.{gives, first_of}
 use Rattle.wac.proofs.Cases.{first_none, first_passed, gives_injective, gives_not_refuses}
@@ -21,8 +21,7 @@ use Rattle.notes.specs.Notes as rules
 use Rattle.sites.specs.Notes.{note_length, note_from, note_bytes}
 use Rattle.sites.specs.Site.{minute_at, receipted_at, DueAt, NextDue, receipt_of, raise_of, next_of, send_cases, Sends, restful}
 use Rattle.sites.specs.declared.site.Site.{Site}
-use Rattle.sites.specs.declared.site.Sending.{Sending}
-use Rattle.sites.specs.declared.site.Sending.TheVariants as sendings
+use Rattle.sites.specs.declared.site.NoteRefused.{NoteRefused}
 use Rattle.sites.proofs.SiteLaws.{Known, next_known, send_given}
 use Rattle.sites.proofs.NoteLaws.{note_taken, Fields}
 use Rattle.sites.proofs.Ledgers.{ledger, note_of, said_by, Standing, Honest, written_says, written_honest, table_at, table_number}
@@ -64,22 +63,22 @@ given_next x from l o e =
     let p = first_passed _ _ _ (sym e) in
     (ltb-false _ _ p.0, next_known x from o (gives_injective (sym (first_none _) ∙ p.1)))
 
-pub sent_note_of : {x : Site} {from e : ℕ} {l l' : List ℕ} → Sends x from l (sendings.Note e) l' → SentNote x from e l'
+pub sent_note_of : {x : Site} {from e : ℕ} {l l' : List ℕ} → Sends x from l (Ok (Some e)) l' → SentNote x from e l'
 sent_note_of {x} {from} {e} {l} sends =
-    let (room, known) = given_next x from l (some e) sends.answer in
+    let (room, known) = given_next x from l (Some e) sends.answer in
     record { low = known.0; next = known.1; bytes = ap (take note_length) sends.bytes ∙ note_taken l (raise_of x e) room }
 
 -- so it is of an entry at or above the one that was given
-pub sent_above : {x : Site} {from e : ℕ} {l l' : List ℕ} {r : Sending} → Sends x from l r l' → r ≡ sendings.Note e → (from ≤ e) × (e < entries)
+pub sent_above : {x : Site} {from e : ℕ} {l l' : List ℕ} {r : Result (Option ℕ) NoteRefused} → Sends x from l r l' → r ≡ Ok (Some e) → (from ≤ e) × (e < entries)
 sent_above {x} {from} {l = l} {l' = l'} sends same =
     let n = sent_note_of (subst (λ r. Sends x from l r l') same sends) in
     ((n.next.due n.low).0, n.low)
 
-pub sent_none_of : {x : Site} {from : ℕ} {l l' : List ℕ} → Sends x from l sendings.Nothing l' → NextDue x from entries
-sent_none_of {x} {from} {l} sends = (given_next x from l none sends.answer).1
+pub sent_none_of : {x : Site} {from : ℕ} {l l' : List ℕ} → Sends x from l (Ok None) l' → NextDue x from entries
+sent_none_of {x} {from} {l} sends = (given_next x from l None sends.answer).1
 
 -- with room sending is not refused
-pub never_short : {x : Site} {from : ℕ} {l l' : List ℕ} → note_length ≤ length l → Sends x from l sendings.Refused l' → ⊥
+pub never_short : {x : Site} {from : ℕ} {why : NoteRefused} {l l' : List ℕ} → note_length ≤ length l → Sends x from l (Err why) l' → ⊥
 never_short {x} {from} {l} room sends = gives_not_refuses (send_given x from l room refl ∙ sym sends.answer)
 
 -- only identifiers and mark 10 wait

@@ -2,7 +2,6 @@
 use mathlib.Core.Path.{◌≡◌, refl, sym, ap, ◌∙◌, subst}
 use mathlib.Core.Bool.{Bool, true, false, cond, not, ◌&&◌, ◌||◌}
 use mathlib.Core.Logic.{◌⊎◌, inl, inr, by_cases}
-use mathlib.Core.Option.{Option, none, some}
 use mathlib.Core.List.{List, [], ◌∷◌, ◌++◌}
 use Prim.Native.Nat.{ℕ, zero, suc, ◌+◌, ◌-◌, ◌<◌, ◌≤◌}
 use native.Mathlib.Nat.{le_refl}
@@ -13,6 +12,7 @@ use borrow.Author.Tests.{ltb-true, ltb-false, leb-true, leb-false, eqb-true, lt-
 use lib.Dec.{leb, ltb, eqb}
 use lib.ListN.{length, get_or, take, drop, set, replicate, length-set, length-replicate}
 use lib.Seq.{length-take-le, take_all, take-suc, drop-cons, set_at, append_snoc}
+use Rattle.std.specs.Prelude.{Option, Some, None, Result}
 use Rattle.wac.specs.Limits.{keys, delegate, access, end_place, entries, without_end, largest_file}
 use Rattle.wac.specs.Answers.{gives, refuses, ◌if◌, first_of}
 use Rattle.wac.specs.Ranges.{all_below}
@@ -36,7 +36,8 @@ use Rattle.sites.specs.Notes.{note_length, raise_kind, receipt_kind, note_from, 
 use Rattle.sites.specs.Site.{copied, start_of, opened_site, minute_at, receipted_at, entry_of, taken_as, note_cases, site_after, bytes_after, Takes, DueAt, NextDue, waiting, next_of, send_cases, restful}
 use Rattle.sites.specs.declared.note.Note.{Note}
 use Rattle.sites.specs.declared.site.Site.{Site}
-use Rattle.sites.specs.declared.site.Taken.{Taken}
+use Rattle.sites.specs.declared.note.NoteKind.{NoteKind}
+use Rattle.sites.specs.declared.site.NoteRefused.{NoteRefused}
 use Rattle.sites.specs.declared.site.Taking.{Taking}
 use Rattle.sites.proofs.NoteLaws.{formed_fields}
 
@@ -156,7 +157,7 @@ module _ (x : Site) (b : List ℕ) (room kind : ℕ) where
       (ltb-false _ _ first.0, whole.0, whole.1)
 
 -- a note is taken by its answer, and the site and the lent bytes are those of it
-pub takes_as : {x : Site} {b l : List ℕ} {r : Taking} {l' : List ℕ} {answer : Taken} → r.answer ≡ answer → taken_as r.answer ≡ first_of (note_cases x b (length l)) (note_from b).kind →
+pub takes_as : {x : Site} {b l : List ℕ} {r : Taking} {l' : List ℕ} {answer : Result NoteKind NoteRefused} → r.answer ≡ answer → taken_as r.answer ≡ first_of (note_cases x b (length l)) (note_from b).kind →
     r.site ≡ site_after answer x (note_from b) → l' ≡ bytes_after answer l (note_from b) → Takes x b l r l'
 takes_as {x} {b} {l} told case site bytes = record {
   answer = case;
@@ -233,12 +234,12 @@ module _ (x : Site) where
 
   -- what is next is the lowest entry that waits
   abbrev pub Known : ℕ → Option ℕ → Type 0
-  Known from (some e) = (e < entries) × NextDue x from e
-  Known from none = NextDue x from entries
+  Known from (Some e) = (e < entries) × NextDue x from e
+  Known from None = NextDue x from entries
 
   known_over : (from : ℕ) (o : Option ℕ) → (DueAt x from → ⊥) → Known (from + 1) o → Known from o
-  known_over from (some e) idle known = (known.0, pass_over idle known.1)
-  known_over from none idle known = pass_over idle known
+  known_over from (Some e) idle known = (known.0, pass_over idle known.1)
+  known_over from None idle known = pass_over idle known
 
   waiting_known : (n from : ℕ) → n ≡ entries - from → Known from (waiting x from n)
   unfolding waiting
@@ -246,7 +247,7 @@ module _ (x : Site) where
   waiting_known (suc n) from h = turn (ltb (receipted_at x from) (minute_at x from)) refl (waiting_known n (from + 1) (omega arith))
     where
       turn : (t : Bool) → ltb (receipted_at x from) (minute_at x from) ≡ t → Known (from + 1) (waiting x (from + 1) n) →
-          Known from (cond t (some from) (waiting x (from + 1) n))
+          Known from (cond t (Some from) (waiting x (from + 1) n))
       turn true e rest = (omega arith, record { before = λ d low below range due. omega arith; due = λ low. (le_refl from, ltb-true _ _ e) })
       turn false e rest = known_over from (waiting x (from + 1) n) (λ due. omega (arith, ltb-false (receipted_at x from) (minute_at x from) e)) rest
 
@@ -254,19 +255,19 @@ module _ (x : Site) where
   next_known from o e = subst (Known from) e (waiting_known (entries - from) from refl)
 
   -- and the lowest entry that waits is next
-  pub next_some : {from e : ℕ} → e < entries → NextDue x from e → next_of x from ≡ some e
+  pub next_some : {from e : ℕ} → e < entries → NextDue x from e → next_of x from ≡ Some e
   next_some {from} {e} low next = turn (next_of x from) (next_known from _ refl)
     where
-      turn : (o : Option ℕ) → Known from o → o ≡ some e
-      turn (some d) known = ap some (next_unique d e known.0 low known.1 next)
-      turn none known = absurd (not_none e entries low (le_refl _) next known)
+      turn : (o : Option ℕ) → Known from o → o ≡ Some e
+      turn (Some d) known = ap Some (next_unique d e known.0 low known.1 next)
+      turn None known = absurd (not_none e entries low (le_refl _) next known)
 
-  pub next_none : {from e : ℕ} → entries ≤ e → NextDue x from e → next_of x from ≡ none
+  pub next_none : {from e : ℕ} → entries ≤ e → NextDue x from e → next_of x from ≡ None
   next_none {from} {e} high next = turn (next_of x from) (next_known from _ refl)
     where
-      turn : (o : Option ℕ) → Known from o → o ≡ none
-      turn (some d) known = absurd (not_none d e known.0 high known.1 next)
-      turn none known = refl
+      turn : (o : Option ℕ) → Known from o → o ≡ None
+      turn (Some d) known = absurd (not_none d e known.0 high known.1 next)
+      turn None known = refl
 
   -- and with room it is given
   pub send_given : (from : ℕ) (l : List ℕ) {o : Option ℕ} → note_length ≤ length l → next_of x from ≡ o → gives o ≡ first_of (send_cases (length l)) (next_of x from)

@@ -8,6 +8,7 @@ use native.Mathlib.Nat.{le_refl}
 use native.Mathlib.Omega.{arith}
 use native.Mathlib.Decide.{dec_lt, ℕ_discrete}
 use lib.ListN.{length, take}
+use Rattle.std.specs.Prelude.{Some, None, Result, Ok}
 use Rattle.wac.specs.Limits.{entries}
 use Rattle.wac.specs.Answers.{gives, first_of}
 use Rattle.decision.specs.declared.request.Request.{Request}
@@ -18,10 +19,10 @@ use Rattle.sites.specs.Line.{receipt_in, Act, System, Step, Steps, joined, Reach
 use Rattle.sites.specs.Exchange.{accepted, taken_a, taken_b, Turn, a_works, Half}
 use Rattle.sites.specs.declared.note.Note.{Note}
 use Rattle.sites.specs.declared.site.Site.{Site}
-use Rattle.sites.specs.declared.site.Taken.{Taken}
-use Rattle.sites.specs.declared.site.Taken.TheVariants as takens
+use Rattle.sites.specs.declared.note.NoteKind.{NoteKind}
+use Rattle.sites.specs.declared.site.NoteRefused.{NoteRefused}
+use Rattle.sites.specs.declared.note.NoteKind.TheVariants.{Raise, Receipt}
 use Rattle.sites.specs.declared.site.Taking.{Taking}
-use Rattle.sites.specs.declared.site.Sending.TheVariants as sendings
 use Rattle.sites.proofs.SiteLaws.{taken_raise, taken_receipt}
 use Rattle.sites.proofs.Unique.{taken_apart}
 use Rattle.sites.proofs.NoteLaws.{note_taken}
@@ -64,7 +65,7 @@ unfolding joined
 turn_idle run idle = turn_told run Steps.none (λ due. absurd (idle due))
 
 -- when there is no next note, every entry has had its turn
-pub turned_nothing : {session from : ℕ} {x y : System} {l l' : List ℕ} → Turned session x y from → Sends y.a.site from l sendings.Nothing l' →
+pub turned_nothing : {session from : ℕ} {x y : System} {l l' : List ℕ} → Turned session x y from → Sends y.a.site from l (Ok None) l' →
     Turned session x y entries
 turned_nothing {from = from} t sends = record {
   worked = t.worked;
@@ -98,7 +99,7 @@ module _ {f g : List ℕ} {q : Request} {session : ℕ} {y : System} (r : Reache
   sendable = first_sendable (begun_order r.begun_a) (begun_order r.begun_b) y.a y.b state.reached
 
   -- the note is taken as a raise, wherever there is room for its receipt,
-  pub raise_given : (room : ℕ) → note_length ≤ room → taken_as takens.Raise ≡ first_of (note_cases y.b.site (note_bytes sent) room) (note_from (note_bytes sent)).kind
+  pub raise_given : (room : ℕ) → note_length ≤ room → taken_as (Ok Raise) ≡ first_of (note_cases y.b.site (note_bytes sent) room) (note_from (note_bytes sent)).kind
   raise_given room enough =
       let read = raise_read r.word state.a_stands sendable e low due in
       let honest = raise_honest r.word state.a_stands sendable e low due in
@@ -111,7 +112,7 @@ module _ {f g : List ℕ} {q : Request} {session : ℕ} {y : System} (r : Reache
   own_entry = rw (entry_back e low) (number_back e low)
 
   pub receipt_given : (room : ℕ) → note_length ≤ room →
-      taken_as takens.Receipt ≡ first_of (note_cases y.a.site (note_bytes (receipt_of sent)) room) (note_from (note_bytes (receipt_of sent))).kind
+      taken_as (Ok Receipt) ≡ first_of (note_cases y.a.site (note_bytes (receipt_of sent)) room) (note_from (note_bytes (receipt_of sent))).kind
   receipt_given room enough =
       let b = note_bytes (receipt_of sent) in
       let read = reply_read r.word state.a_stands sendable e low due in
@@ -121,8 +122,8 @@ module _ {f g : List ℕ} {q : Request} {session : ℕ} {y : System} (r : Reache
       state.a_stands.live (honest.of_session ∙ sym state.a_stands.of_session) e (sym (ap entry_of read ∙ own_entry)) held)
 
   -- so whatever takes the note answers so, and what it writes is the receipt
-  pub raise_answer : {l l' : List ℕ} {t : Taking} → note_length ≤ length l → Takes y.b.site (note_bytes sent) l t l' → t.answer ≡ takens.Raise
-  raise_answer {l} {t = t} room takes = taken_apart t.answer takens.Raise (takes.answer ∙ sym (raise_given (length l) room))
+  pub raise_answer : {l l' : List ℕ} {t : Taking} → note_length ≤ length l → Takes y.b.site (note_bytes sent) l t l' → t.answer ≡ Ok Raise
+  raise_answer {l} {t = t} room takes = taken_apart t.answer (Ok Raise) (takes.answer ∙ sym (raise_given (length l) room))
 
   pub raise_reply : {l l' : List ℕ} {t : Taking} → note_length ≤ length l → Takes y.b.site (note_bytes sent) l t l' → take note_length l' ≡ note_bytes (receipt_of sent)
   raise_reply {l} room takes =
@@ -130,13 +131,13 @@ module _ {f g : List ℕ} {q : Request} {session : ℕ} {y : System} (r : Reache
       ap (take note_length) (takes.bytes ∙ ap (λ a. bytes_after a l (note_from (note_bytes sent))) (raise_answer room takes))
       ∙ note_taken l (receipt_of (note_from (note_bytes sent))) room ∙ ap (λ n. note_bytes (receipt_of n)) read
 
-  pub receipt_answer : {l l' : List ℕ} {t : Taking} → note_length ≤ length l → Takes y.a.site (note_bytes (receipt_of sent)) l t l' → t.answer ≡ takens.Receipt
-  receipt_answer {l} {t = t} room takes = taken_apart t.answer takens.Receipt (takes.answer ∙ sym (receipt_given (length l) room))
+  pub receipt_answer : {l l' : List ℕ} {t : Taking} → note_length ≤ length l → Takes y.a.site (note_bytes (receipt_of sent)) l t l' → t.answer ≡ Ok Receipt
+  receipt_answer {l} {t = t} room takes = taken_apart t.answer (Ok Receipt) (takes.answer ∙ sym (receipt_given (length l) room))
 
 -- so the next note is taken as a raise
 pub next_raised : {f g : List ℕ} {q : Request} {session : ℕ} {y : System} {from e : ℕ} {l l' note m m' : List ℕ} {t : Taking} →
-    Reached f g q session y → Sends y.a.site from l (sendings.Note e) l' → take note_length l' ≡ note →
-    note_length ≤ length m → Takes y.b.site note m t m' → t.answer ≡ takens.Raise
+    Reached f g q session y → Sends y.a.site from l (Ok (Some e)) l' → take note_length l' ≡ note →
+    note_length ≤ length m → Takes y.b.site note m t m' → t.answer ≡ Ok Raise
 next_raised {y = y} {e = e} {m = m} {m'} {t} r sends same room takes =
     let n = sent_note_of sends in
     raise_answer r e n.low (n.next.due n.low).1 room
@@ -146,7 +147,7 @@ next_raised {y = y} {e = e} {m = m} {m'} {t} r sends same room takes =
 pub record Delivered (a b : Site) (from e : ℕ) (note receipt : List ℕ) (a' b' : Site) : Type 0 where
   pub lent : List ℕ
   pub written : List ℕ
-  pub sends : Sends a from lent (sendings.Note e) written
+  pub sends : Sends a from lent (Ok (Some e)) written
   pub note_is : take note_length written ≡ note
   pub b_lent : List ℕ
   pub b_written : List ℕ
@@ -187,17 +188,17 @@ module _ {f g : List ℕ} {q : Request} {session : ℕ} {y : System} (r : Reache
   back = subst (λ n. Takes y.a.site n d.a_lent d.a_taking d.a_written) receipt_bytes d.a_takes
 
   -- b takes the note as a raise, and a the receipt as a receipt
-  pub b_answers : d.b_taking.answer ≡ takens.Raise
+  pub b_answers : d.b_taking.answer ≡ Ok Raise
   b_answers = next_raised r d.sends d.note_is d.b_room d.b_takes
 
-  pub a_answers : d.a_taking.answer ≡ takens.Receipt
+  pub a_answers : d.a_taking.answer ≡ Ok Receipt
   a_answers = receipt_answer r e low due d.a_room back
 
   -- a run on which b takes the note and a takes the receipt
   abbrev Passing : System → Type 0
   Passing z = (on : Steps session y z) × Memᴰ note (taken_b on) × Memᴰ receipt (taken_a on)
 
-  abbrev end : Taken → Taken → System
+  abbrev end : Result NoteKind NoteRefused → Result NoteKind NoteRefused → System
   end t s = record {
     a = record { site = d.a_taking.site; wrote = receipt_in s d.a_written (take note_length d.written ∷ y.a.wrote) };
     b = record { site = d.b_taking.site; wrote = receipt_in t d.b_written y.b.wrote };
@@ -215,7 +216,7 @@ module _ {f g : List ℕ} {q : Request} {session : ℕ} {y : System} (r : Reache
   )
 
   ends : end d.b_taking.answer d.a_taking.answer ≡ delivered y note receipt a' b'
-  ends = ap (λ t. end t d.a_taking.answer) b_answers ∙ ap (end takens.Raise) a_answers
+  ends = ap (λ t. end t d.a_taking.answer) b_answers ∙ ap (end (Ok Raise)) a_answers
       ∙ (λ i. delivered y (d.note_is i) (d.receipt_is i) (d.a_after i) (d.b_after i))
 
   delivers : Passing (delivered y note receipt a' b')

@@ -1,11 +1,11 @@
 -- Two results that meet a contract are the same. Where a contract is an equation for the result there is nothing to show; these are the others.
 use mathlib.Core.Path.{◌≡◌, refl, sym, ap, ◌∙◌}
 use mathlib.Core.Bool.{cond}
-use mathlib.Core.Option.{Option, none, some}
 use mathlib.Core.List.{List}
 use Prim.Native.Nat.{ℕ}
 use native.Mathlib.Omega.{arith}
 use lib.Dec.{eqb}
+use Rattle.std.specs.Prelude.{Option, Result, Ok, Err}
 use Rattle.wac.specs.Answers.{Answer, gives, refuses}
 use Rattle.wac.proofs.Cases.{gives_not_refuses}
 use Rattle.wac.proofs.Unique.{told_apart}
@@ -16,21 +16,18 @@ use Rattle.sites.specs.Notes.{raise_kind, note_from}
 use Rattle.sites.specs.Site.{blank_site, Opens, worked_site, Works, taken_as, site_after, bytes_after, Takes, sending_as, bytes_sent, Sends}
 use Rattle.sites.specs.declared.site.Site.{Site}
 use Rattle.sites.specs.declared.site.Opening.{Opening}
-use Rattle.sites.specs.declared.site.Opened.TheVariants as opens
 use Rattle.sites.specs.declared.site.NoteRefused.{NoteRefused}
 use Rattle.sites.specs.declared.site.NoteRefused.TheVariants.{Room, Form, Session, Later}
-use Rattle.sites.specs.declared.site.Taken.{Taken}
-use Rattle.sites.specs.declared.site.Taken.TheVariants as takens
+use Rattle.sites.specs.declared.note.NoteKind.{NoteKind}
+use Rattle.sites.specs.declared.note.NoteKind.TheVariants.{Raise, Receipt}
 use Rattle.sites.specs.declared.site.Taking.{Taking}
-use Rattle.sites.specs.declared.site.Sending.{Sending}
-use Rattle.sites.specs.declared.site.Sending.TheVariants as sendings
 
 -- `open`: one opening
 module _ {s : List ℕ} {q : Request} {session : ℕ} where
   pub opens_unique : {r r' : Opening} → Opens s q session r → Opens s q session r' → r ≡ r'
   opens_unique (Opens.refused why case e) (Opens.refused why' case' e') =
       let reason : why ≡ why' = cc (admit_unique s q (admits.Refused why) (admits.Refused why') (sym case) (sym case')) in
-      e ∙ ap (λ w. record { answer = opens.Refused w; site = blank_site }) reason ∙ sym e'
+      e ∙ ap (λ w. record { answer = Err w; site = blank_site }) reason ∙ sym e'
   opens_unique (Opens.refused why case e) (Opens.opened case' e') = absurd (gives_not_refuses (sym case' ∙ case))
   opens_unique (Opens.opened case e) (Opens.refused why case' e') = absurd (gives_not_refuses (sym case ∙ case'))
   opens_unique (Opens.opened case e) (Opens.opened case' e') = e ∙ sym e'
@@ -47,20 +44,20 @@ module _ {x : Site} where
 note_refused_of : ℕ → NoteRefused
 note_refused_of n = cond (eqb n 23) Room (cond (eqb n 27) Form (cond (eqb n 26) Session Later))
 
-taken_of : Answer ℕ → Taken
-taken_of (gives n) = cond (eqb n raise_kind) takens.Raise takens.Receipt
-taken_of (refuses n vs) = takens.Refused (note_refused_of n)
+taken_of : Answer ℕ → Result NoteKind NoteRefused
+taken_of (gives n) = cond (eqb n raise_kind) (Ok Raise) (Ok Receipt)
+taken_of (refuses n vs) = Err (note_refused_of n)
 
-taken_back : (r : Taken) → taken_of (taken_as r) ≡ r
+taken_back : (r : Result NoteKind NoteRefused) → taken_of (taken_as r) ≡ r
 unfolding note_refused_of taken_of
-taken_back takens.Raise = refl
-taken_back takens.Receipt = refl
-taken_back (takens.Refused Room) = refl
-taken_back (takens.Refused Form) = refl
-taken_back (takens.Refused Session) = refl
-taken_back (takens.Refused Later) = refl
+taken_back (Ok Raise) = refl
+taken_back (Ok Receipt) = refl
+taken_back (Err Room) = refl
+taken_back (Err Form) = refl
+taken_back (Err Session) = refl
+taken_back (Err Later) = refl
 
-pub taken_apart : (r r' : Taken) → taken_as r ≡ taken_as r' → r ≡ r'
+pub taken_apart : (r r' : Result NoteKind NoteRefused) → taken_as r ≡ taken_as r' → r ≡ r'
 taken_apart = told_apart taken_as taken_of taken_back
 
 -- `take`: one answer, one site, and one receipt
@@ -70,25 +67,26 @@ takes_unique {x} {b} {l} r r' t t' =
     let site : r.site ≡ r'.site = t.site ∙ ap (λ a. site_after a x (note_from b)) same ∙ sym t'.site in
     (both same site, t.bytes ∙ ap (λ a. bytes_after a l (note_from b)) same ∙ sym t'.bytes)
   where
-    both : {a a' : Taken} {s s' : Site} → a ≡ a' → s ≡ s' → ◌≡◌ {A = Taking} (record { answer = a; site = s }) (record { answer = a'; site = s' })
+    both : {a a' : Result NoteKind NoteRefused} {s s' : Site} → a ≡ a' → s ≡ s' → ◌≡◌ {A = Taking} (record { answer = a; site = s }) (record { answer = a'; site = s' })
     both e f = rw (e, f)
 
-sending_of : Answer (Option ℕ) → Sending
-sending_of (gives (some e)) = sendings.Note e
-sending_of (gives none) = sendings.Nothing
-sending_of (refuses n vs) = sendings.Refused
+sending_of : Answer (Option ℕ) → Result (Option ℕ) NoteRefused
+sending_of (gives next) = Ok next
+sending_of (refuses n vs) = Err (note_refused_of n)
 
-sending_back : (r : Sending) → sending_of (sending_as r) ≡ r
-unfolding sending_of
-sending_back (sendings.Note e) = refl
-sending_back sendings.Nothing = refl
-sending_back sendings.Refused = refl
+sending_back : (r : Result (Option ℕ) NoteRefused) → sending_of (sending_as r) ≡ r
+unfolding note_refused_of sending_of
+sending_back (Ok next) = refl
+sending_back (Err Room) = refl
+sending_back (Err Form) = refl
+sending_back (Err Session) = refl
+sending_back (Err Later) = refl
 
-pub sending_apart : (r r' : Sending) → sending_as r ≡ sending_as r' → r ≡ r'
+pub sending_apart : (r r' : Result (Option ℕ) NoteRefused) → sending_as r ≡ sending_as r' → r ≡ r'
 sending_apart = told_apart sending_as sending_of sending_back
 
 -- `next`: one answer, and one note
-pub sends_unique : {x : Site} {from : ℕ} {l : List ℕ} {r r' : Sending} {l₁ l₂ : List ℕ} → Sends x from l r l₁ → Sends x from l r' l₂ →
+pub sends_unique : {x : Site} {from : ℕ} {l : List ℕ} {r r' : Result (Option ℕ) NoteRefused} {l₁ l₂ : List ℕ} → Sends x from l r l₁ → Sends x from l r' l₂ →
     (r ≡ r') × (l₁ ≡ l₂)
 sends_unique {x} {from} {l} {r} {r'} s s' =
     let same = sending_apart r r' (s.answer ∙ sym s'.answer) in

@@ -2,21 +2,22 @@
 -- then the same the other way round (document 01, "Two sites"). Nothing that is sent is lost. But notes may come late,
 -- in any order and repeatedly, and before, between and within these acts anything else may happen on the line: notes of
 -- before, further work, further notes, strays.
-use Rattle.std.specs.Prelude.{◌≡◌, ℕ, zero, suc, ◌<◌}
+use Rattle.std.specs.Prelude.{◌≡◌, ℕ, zero, suc, ◌<◌, Result, Ok, Err}
 use mathlib.Core.List.{List, [], ◌∷◌, Memᴰ}
 use Rattle.wac.specs.Limits.{entries}
 use Rattle.sites.specs.Notes.{note_bytes}
 use Rattle.sites.specs.Site.{Works, DueAt, raise_of, receipt_of}
 use Rattle.sites.specs.Line.{Party, Act, System, swapped, Step, Steps, joined}
+use Rattle.sites.specs.declared.note.NoteKind.{NoteKind}
+use Rattle.sites.specs.declared.note.NoteKind.TheVariants.{Raise, Receipt}
 use Rattle.sites.specs.declared.site.Site.{Site}
-use Rattle.sites.specs.declared.site.Taken.{Taken}
-use Rattle.sites.specs.declared.site.Taken.TheVariants as takens
+use Rattle.sites.specs.declared.site.NoteRefused.{NoteRefused}
 
 -- the notes with the one that was brought, unless it was refused
-abbrev pub accepted : Taken → List ℕ → List (List ℕ) → List (List ℕ)
-accepted takens.Raise b ns = b ∷ ns
-accepted takens.Receipt b ns = b ∷ ns
-accepted (takens.Refused why) b ns = ns
+abbrev pub accepted : Result NoteKind NoteRefused → List ℕ → List (List ℕ) → List (List ℕ)
+accepted (Ok Raise) b ns = b ∷ ns
+accepted (Ok Receipt) b ns = b ∷ ns
+accepted (Err why) b ns = ns
 
 -- the notes with the one that an act takes
 abbrev pub took : {session : ℕ} {theirs : List (List ℕ)} {p q : Party} → Act session theirs p q →

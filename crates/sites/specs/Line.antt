@@ -1,6 +1,6 @@
 -- Two sites on a line that may lose, repeat, delay and reorder notes, and bring bytes that are no note of this session, but forges none:
 -- document 01, "Two sites". Everything is said of the sites and of the bytes that the functions take and give.
-use Rattle.std.specs.Prelude.{◌≡◌, ◌↔◌, true, ℕ, ◌≤◌, take}
+use Rattle.std.specs.Prelude.{◌≡◌, ◌↔◌, true, ℕ, ◌≤◌, take, Result, Ok, Err, Some}
 use mathlib.Core.List.{List, [], ◌∷◌, Memᴰ}
 use Rattle.wac.specs.Bytes.{AreBytes}
 use Rattle.wac.specs.Limits.{without_end}
@@ -11,12 +11,11 @@ use Rattle.decision.specs.Question.{asked}
 use Rattle.decision.specs.declared.request.Request.{Request}
 use Rattle.sites.specs.Notes.{note_length, note_from, note_ok}
 use Rattle.sites.specs.Site.{Opens, Works, Takes, Sends, restful, showing}
+use Rattle.sites.specs.declared.note.NoteKind.{NoteKind}
+use Rattle.sites.specs.declared.note.NoteKind.TheVariants.{Raise, Receipt}
 use Rattle.sites.specs.declared.site.Site.{Site}
-use Rattle.sites.specs.declared.site.Opened.TheVariants.{Ready}
-use Rattle.sites.specs.declared.site.Taken.{Taken}
-use Rattle.sites.specs.declared.site.Taken.TheVariants as takens
+use Rattle.sites.specs.declared.site.NoteRefused.{NoteRefused}
 use Rattle.sites.specs.declared.site.Taking.{Taking}
-use Rattle.sites.specs.declared.site.Sending.TheVariants as sendings
 
 -- a site and all the notes that it ever wrote, by their bytes
 pub record Party : Type 0 where
@@ -24,10 +23,10 @@ pub record Party : Type 0 where
   pub wrote : List (List ℕ)
 
 -- the notes with the receipt that stands in the lent bytes, if one was written
-abbrev pub receipt_in : Taken → List ℕ → List (List ℕ) → List (List ℕ)
-receipt_in takens.Raise l w = take note_length l ∷ w
-receipt_in takens.Receipt l w = w
-receipt_in (takens.Refused why) l w = w
+abbrev pub receipt_in : Result NoteKind NoteRefused → List ℕ → List (List ℕ) → List (List ℕ)
+receipt_in (Ok Raise) l w = take note_length l ∷ w
+receipt_in (Ok Receipt) l w = w
+receipt_in (Err why) l w = w
 
 -- bytes that are no note of this session
 abbrev pub Stray : ℕ → List ℕ → Type 0
@@ -36,7 +35,7 @@ Stray session b = note_ok b ≡ true → (note_from b).session ≡ session → �
 -- what a site may do next, while the other side wrote the notes `theirs`: it works; it writes a note; any note that the other side ever wrote is brought to it; bytes that are no note of this session are brought to it
 pub data Act (session : ℕ) (theirs : List (List ℕ)) : Party → Party → Type 0 where
   act_work : {p : Party} (x : Site) → Works p.site x → Act session theirs p (record { site = x; wrote = p.wrote })
-  act_write : {p : Party} (from e : ℕ) (l l' : List ℕ) → Sends p.site from l (sendings.Note e) l' → Act session theirs p (record { site = p.site; wrote = take note_length l' ∷ p.wrote })
+  act_write : {p : Party} (from e : ℕ) (l l' : List ℕ) → Sends p.site from l (Ok (Some e)) l' → Act session theirs p (record { site = p.site; wrote = take note_length l' ∷ p.wrote })
   act_take : {p : Party} (b l l' : List ℕ) (r : Taking) → Memᴰ b theirs → Takes p.site b l r l' →
       Act session theirs p (record { site = r.site; wrote = receipt_in r.answer l' p.wrote })
   act_stray : {p : Party} (b l l' : List ℕ) (r : Taking) → Stray session b → Takes p.site b l r l' →
@@ -69,7 +68,7 @@ joined run (Steps.more on step) = Steps.more (joined run on) step
 -- a file of bytes with which a site was opened and is ready, before it wrote anything
 pub record Begun (s : List ℕ) (q : Request) (session : ℕ) (p : Party) : Type 0 where
   pub bytes : AreBytes s
-  pub opening : Opens s q session (record { answer = Ready; site = p.site })
+  pub opening : Opens s q session (record { answer = Ok tt; site = p.site })
   pub silent : p.wrote ≡ []
 
 -- the states that two sites come to which were opened with one request and one session number of 4 bytes

@@ -1,6 +1,5 @@
 -- What each function makes of a site: document 01, "Two sites" and the rows 20 to 28 of "What comes back".
-use Rattle.std.specs.Prelude.{◌≡◌, Bool, true, false, cond, not, ◌&&◌, List, [], ◌∷◌, ◌++◌, ℕ, zero, suc, ◌+◌, ◌-◌, ◌≤◌, ◌<◌, min, max, leb, ltb, eqb, length, get_or, take, drop, set, replicate}
-use Rattle.std.proofs.Math.Option.{Option, none, some}
+use Rattle.std.specs.Prelude.{◌≡◌, Bool, true, false, cond, not, ◌&&◌, List, [], ◌∷◌, ◌++◌, ℕ, zero, suc, ◌+◌, ◌-◌, ◌≤◌, ◌<◌, min, max, leb, ltb, eqb, length, get_or, take, drop, set, replicate, Option, Some, None, Result, Ok, Err}
 use Rattle.std.proofs.lemmas.List.Edits.{sets}
 use Rattle.wac.specs.Limits.{entries, delegate, end_place, largest_file}
 use Rattle.wac.specs.Answers.{Answer, gives, refuses, Case, ◌if◌, first_of}
@@ -16,16 +15,13 @@ use Rattle.decision.specs.declared.question.Refused.{Refused}
 use Rattle.decision.specs.declared.question.Settling.TheVariants as settlings
 use Rattle.sites.specs.Notes.{note_length, raise_kind, receipt_kind, note_from, note_bytes, note_ok}
 use Rattle.sites.specs.declared.note.Note.{Note}
+use Rattle.sites.specs.declared.note.NoteKind.{NoteKind}
+use Rattle.sites.specs.declared.note.NoteKind.TheVariants.{Raise, Receipt}
 use Rattle.sites.specs.declared.site.Site.{Site}
 use Rattle.sites.specs.declared.site.Opening.{Opening}
-use Rattle.sites.specs.declared.site.Opened.TheVariants as opens
 use Rattle.sites.specs.declared.site.NoteRefused.{NoteRefused}
 use Rattle.sites.specs.declared.site.NoteRefused.TheVariants.{Room, Form, Session, Later}
-use Rattle.sites.specs.declared.site.Taken.{Taken}
-use Rattle.sites.specs.declared.site.Taken.TheVariants as takens
 use Rattle.sites.specs.declared.site.Taking.{Taking}
-use Rattle.sites.specs.declared.site.Sending.{Sending}
-use Rattle.sites.specs.declared.site.Sending.TheVariants as sendings
 use Rattle.sites.specs.declared.site.Showing.{Showing}
 
 -- a list with its first places taken by others
@@ -64,8 +60,8 @@ blank_site = record {
 
 -- opening: refused by the first case that holds, with a blank site; or the site
 pub data Opens (s : List ℕ) (q : Request) (session : ℕ) (r : Opening) : Type 0 where
-  refused : (why : Refused) → first_of (file_cases s ++ request_cases q) (count_of s) ≡ refused_as why → r ≡ record { answer = opens.Refused why; site = blank_site } → Opens s q session r
-  opened : first_of (file_cases s ++ request_cases q) (count_of s) ≡ gives (count_of s) → r ≡ record { answer = opens.Ready; site = opened_site s q session } → Opens s q session r
+  refused : (why : Refused) → first_of (file_cases s ++ request_cases q) (count_of s) ≡ refused_as why → r ≡ record { answer = Err why; site = blank_site } → Opens s q session r
+  opened : first_of (file_cases s ++ request_cases q) (count_of s) ≡ gives (count_of s) → r ≡ record { answer = Ok tt; site = opened_site s q session } → Opens s q session r
 
 -- the site's own file
 abbrev pub file_of : Site → List ℕ
@@ -139,10 +135,10 @@ note_number Session = 26
 note_number Later = 28
 
 -- what becomes of a note comes back as its kind, or as the refusal's number
-abbrev pub taken_as : Taken → Answer ℕ
-taken_as takens.Raise = gives raise_kind
-taken_as takens.Receipt = gives receipt_kind
-taken_as (takens.Refused why) = refuses (note_number why) []
+abbrev pub taken_as : Result NoteKind NoteRefused → Answer ℕ
+taken_as (Ok Raise) = gives raise_kind
+taken_as (Ok Receipt) = gives receipt_kind
+taken_as (Err why) = refuses (note_number why) []
 
 -- the refusals of a note, in document 01's order: the lent receipt's room, the note's form, its session, a receipt for a later minute than the entry holds
 unfoldable pub note_cases : Site → List ℕ → ℕ → List Case
@@ -154,16 +150,16 @@ note_cases x b room =
     ∷ []
 
 -- the site after a note
-abbrev pub site_after : Taken → Site → Note → Site
-site_after takens.Raise x n = raised_site x (entry_of n) n.minute
-site_after takens.Receipt x n = receipted_site x (entry_of n) n.minute
-site_after (takens.Refused why) x n = x
+abbrev pub site_after : Result NoteKind NoteRefused → Site → Note → Site
+site_after (Ok Raise) x n = raised_site x (entry_of n) n.minute
+site_after (Ok Receipt) x n = receipted_site x (entry_of n) n.minute
+site_after (Err why) x n = x
 
 -- the lent bytes after a note: a raise's receipt in the first 12
-abbrev pub bytes_after : Taken → List ℕ → Note → List ℕ
-bytes_after takens.Raise l n = sets l 0 (note_bytes (receipt_of n))
-bytes_after takens.Receipt l n = l
-bytes_after (takens.Refused why) l n = l
+abbrev pub bytes_after : Result NoteKind NoteRefused → List ℕ → Note → List ℕ
+bytes_after (Ok Raise) l n = sets l 0 (note_bytes (receipt_of n))
+bytes_after (Ok Receipt) l n = l
+bytes_after (Err why) l n = l
 
 -- taking a note: the first refusal that holds or its kind, and what the site and the lent bytes then are
 pub record Takes (x : Site) (b l : List ℕ) (r : Taking) (l' : List ℕ) : Type 0 where
@@ -186,31 +182,30 @@ raise_of x e = record { session = x.session; kind = raise_kind; key = key_of e; 
 
 -- the lowest of n entries from `from` on that waits to be sent, if one does
 unfoldable pub waiting : Site → ℕ → ℕ → Option ℕ
-waiting x from zero = none
-waiting x from (suc n) = cond (ltb (receipted_at x from) (minute_at x from)) (some from) (waiting x (from + 1) n)
+waiting x from zero = None
+waiting x from (suc n) = cond (ltb (receipted_at x from) (minute_at x from)) (Some from) (waiting x (from + 1) n)
 
 -- the entry whose note is next, from an entry number on: none if there is none, or the number is above 2,591
 abbrev pub next_of : Site → ℕ → Option ℕ
 next_of x from = waiting x from (entries - from)
 
 -- what is sent comes back as the entry whose note is written, or as none, or as the refusal's number
-abbrev pub sending_as : Sending → Answer (Option ℕ)
-sending_as (sendings.Note e) = gives (some e)
-sending_as sendings.Nothing = gives none
-sending_as sendings.Refused = refuses 23 []
+abbrev pub sending_as : Result (Option ℕ) NoteRefused → Answer (Option ℕ)
+sending_as (Ok next) = gives next
+sending_as (Err why) = refuses (note_number why) []
 
 -- the refusals of sending: the lent note's room
 abbrev pub send_cases : ℕ → List Case
 send_cases room = (23 if ltb room note_length) ∷ []
 
 -- the lent bytes after sending: the entry's note in the first 12
-abbrev pub bytes_sent : Sending → Site → List ℕ → List ℕ
-bytes_sent (sendings.Note e) x l = sets l 0 (note_bytes (raise_of x e))
-bytes_sent sendings.Nothing x l = l
-bytes_sent sendings.Refused x l = l
+abbrev pub bytes_sent : Result (Option ℕ) NoteRefused → Site → List ℕ → List ℕ
+bytes_sent (Ok (Some e)) x l = sets l 0 (note_bytes (raise_of x e))
+bytes_sent (Ok None) x l = l
+bytes_sent (Err why) x l = l
 
 -- the next note from an entry number on: the first refusal that holds or the entry, and what the lent bytes then are
-pub record Sends (x : Site) (from : ℕ) (l : List ℕ) (r : Sending) (l' : List ℕ) : Type 0 where
+pub record Sends (x : Site) (from : ℕ) (l : List ℕ) (r : Result (Option ℕ) NoteRefused) (l' : List ℕ) : Type 0 where
   pub answer : sending_as r ≡ first_of (send_cases (length l)) (next_of x from)
   pub bytes : l' ≡ bytes_sent r x l
 

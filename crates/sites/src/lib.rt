@@ -9,8 +9,8 @@ mod entry;
 mod note;
 mod site;
 
-pub use note::Note;
+pub use note::{Note, NoteKind};
 pub use site::{
-    NoteRefused, Opened, Opening, Sending, Showing, Site, Taken, Taking, next, note_refusal_number,
-    open, rests, shown, take, work,
+    NoteRefused, Opening, Showing, Site, Taking, next, note_refusal_number, open, rests, shown,
+    take, work,
 };

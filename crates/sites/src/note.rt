@@ -28,6 +28,15 @@ impl Note {
     pub const RECEIPT: u8 = 2;
 }
 
+// What kind of note was taken.
+#[derive(Clone, Copy)]
+pub enum NoteKind {
+    // It was a raise, and its receipt is written.
+    Raise,
+    // It was a receipt.
+    Receipt,
+}
+
 // What the first 12 bytes say.
 pub fn note_from(bytes: &[u8]) -> Note
     requires { note_length ≤ length bytes.now }

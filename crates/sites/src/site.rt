@@ -1,10 +1,10 @@
 // A site: its own copy of the file, the request and the session number, and for each entry its minute
 // and its receipted minute.
-ghost use Rattle.std.specs.Prelude.{◌≡◌, ◌≤◌, ◌<◌, max, length};
+ghost use Rattle.std.specs.Prelude.{◌≡◌, ◌≤◌, ◌<◌, max, length, MatchResult};
 ghost use Rattle.wac.specs.Limits.{entries, keys, largest_file};
 ghost use Rattle.wac.specs.Answers.{first_of};
-ghost use Rattle.decision.specs.Question.{request_of};
-ghost use Rattle.sites.specs.Notes.{note_from};
+ghost use Rattle.sites.specs.Notes.{note_length, note_from};
+ghost use Rattle.sites.specs.declared.site.NoteRefused.TheVariants.{Room};
 ghost use Rattle.sites.specs.Site.{
   copied,
   start_of,
@@ -26,7 +26,7 @@ ghost use Rattle.sites.specs.Site.{
   note_number,
 };
 
-use crate::note::Note;
+use crate::note::{Note, NoteKind};
 use crate::{entry, note};
 use decision::{Admitted, Refused, Request, Settling};
 use wac::Table;
@@ -47,17 +47,10 @@ pub struct Site {
     idle: bool,
 }
 
-// Whether a site was opened.
-#[derive(Clone, Copy)]
-pub enum Opened {
-    Ready,
-    Refused(Refused),
-}
-
 // An opening: the answer, and the site, blank where it is refused.
 #[derive(Clone, Copy)]
 pub struct Opening {
-    pub answer: Opened,
+    pub answer: Result<(), Refused>,
     pub site: Site,
 }
 
@@ -126,28 +119,22 @@ fn site_on(file: &[u8], request: Request, session: u32) -> Site
 }
 
 // Opens a site with its own file, the request and a session number, of all of which it keeps a copy.
-pub fn open(file: &[u8], owner: u8, asker: u8, rights: u8, at: u32, session: u32) -> Opening
-    ensures { Opens file.now (request_of owner asker rights at) session result }
+pub fn open(file: &[u8], request: Request, session: u32) -> Opening
+    ensures { Opens file.now request session result }
 {
-    let request = Request {
-        owner: owner,
-        asker: asker,
-        rights: rights,
-        at: at,
-    };
     let admitted = decision::admit(file, request);
     match admitted {
         Admitted::Refused(why) => {
             let site = blank_site();
             Opening {
-                answer: Opened::Refused(why),
+                answer: Err(why),
                 site: site,
             }
         }
         Admitted::Count(_) => {
             let site = site_on(file, request, session);
             Opening {
-                answer: Opened::Ready,
+                answer: Ok(()),
                 site: site,
             }
         }
@@ -201,21 +188,20 @@ pub fn note_refusal_number(why: NoteRefused) -> u8
     }
 }
 
-// What became of a note.
-#[derive(Clone, Copy)]
-pub enum Taken {
-    // It was a raise, and its receipt is written.
-    Raise,
-    // It was a receipt.
-    Receipt,
-    // It is refused.
-    Refused(NoteRefused),
+// Refuses under 12 lent bytes.
+fn room_for_note(room: usize) -> Result<(), NoteRefused>
+    ensures { MatchResult result (λ _. note_length ≤ room) (λ why. (why ≡ Room) × (room < note_length)) }
+{
+    if room < Note::BYTES {
+        return Err(NoteRefused::Room);
+    }
+    Ok(())
 }
 
-// A note taken: the answer, and the site after it.
+// A note taken: the answer, the note's kind or why it is refused, and the site after it.
 #[derive(Clone, Copy)]
 pub struct Taking {
-    pub answer: Taken,
+    pub answer: Result<NoteKind, NoteRefused>,
     pub site: Site,
 }
 
@@ -255,30 +241,28 @@ fn receipt_at(site: Site, entry: usize, minute: u32) -> Site
 }
 
 // What becomes of a note, before anything changes: 23, 27, 26, 28, or its kind.
-fn answer_for(site: Site, bytes: &[u8], room: usize) -> Taken
+fn answer_for(site: Site, bytes: &[u8], room: usize) -> Result<NoteKind, NoteRefused>
     ensures { taken_as result ≡ first_of (note_cases site bytes.now room) (note_from bytes.now).kind }
 {
-    if room < Note::BYTES {
-        return Taken::Refused(NoteRefused::Room);
-    }
+    room_for_note(room)?;
     if !note::is_note(bytes) {
-        return Taken::Refused(NoteRefused::Form);
+        return Err(NoteRefused::Form);
     }
     let said = note::note_from(bytes);
     if !site.live {
-        return Taken::Refused(NoteRefused::Session);
+        return Err(NoteRefused::Session);
     }
     if said.session != site.session {
-        return Taken::Refused(NoteRefused::Session);
+        return Err(NoteRefused::Session);
     }
     if said.kind == Note::RAISE {
-        return Taken::Raise;
+        return Ok(NoteKind::Raise);
     }
     let entry = note::entry_of(said);
     if site.minutes[entry] < said.minute {
-        return Taken::Refused(NoteRefused::Later);
+        return Err(NoteRefused::Later);
     }
-    Taken::Receipt
+    Ok(NoteKind::Receipt)
 }
 
 // Takes a note that was brought to the site. The receipt of a raise is written to the first 12 lent
@@ -288,11 +272,11 @@ pub fn take(site: Site, bytes: &[u8], receipt: &mut [u8]) -> Taking
 {
     let answer = answer_for(site, bytes, receipt.len());
     match answer {
-        Taken::Refused(_) => Taking {
+        Err(_) => Taking {
             answer: answer,
             site: site,
         },
-        Taken::Raise => {
+        Ok(NoteKind::Raise) => {
             let said = note::note_from(bytes);
             let raised = raise_at(site, note::entry_of(said), said.minute);
             note::write_note(receipt_of(said), receipt);
@@ -301,7 +285,7 @@ pub fn take(site: Site, bytes: &[u8], receipt: &mut [u8]) -> Taking
                 site: raised,
             }
         }
-        Taken::Receipt => {
+        Ok(NoteKind::Receipt) => {
             let said = note::note_from(bytes);
             let told = receipt_at(site, note::entry_of(said), said.minute);
             Taking {
@@ -319,17 +303,6 @@ fn receipt_of(raise: Note) -> Note
     let mut receipt = raise;
     receipt.kind = Note::RECEIPT;
     receipt
-}
-
-// What a site has to send.
-#[derive(Clone, Copy)]
-pub enum Sending {
-    // The note of this entry is written.
-    Note(usize),
-    // There is none.
-    Nothing,
-    // Under 12 lent bytes: 23.
-    Refused,
 }
 
 // The lowest entry from `from` on whose minute is above its receipted minute, and 2,592 where there is
@@ -363,18 +336,16 @@ fn raise_of(site: Site, entry: usize) -> Note
 }
 
 // The next note to send, from a given entry number on, is written to the first 12 lent bytes.
-pub fn next(site: Site, from: usize, bytes: &mut [u8]) -> Sending
+pub fn next(site: Site, from: usize, bytes: &mut [u8]) -> Result<Option<usize>, NoteRefused>
     ensures { Sends site from bytes.old result bytes.new }
 {
-    if bytes.len() < Note::BYTES {
-        return Sending::Refused;
-    }
+    room_for_note(bytes.len())?;
     let entry = next_due(site, from);
     if Table::ENTRIES <= entry {
-        return Sending::Nothing;
+        return Ok(None);
     }
     note::write_note(raise_of(site, entry), bytes);
-    Sending::Note(entry)
+    Ok(Some(entry))
 }
 
 // Rest: the site has worked since it was opened and since the last rise, and no entry's minute is above

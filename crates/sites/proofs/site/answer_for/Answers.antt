@@ -4,6 +4,7 @@ use mathlib.Core.Path.{◌≡◌, sym, ap, ◌∙◌}
 use mathlib.Core.List.{List}
 use Prim.Native.Nat.{ℕ}
 use native.Mathlib.Omega.{arith}
+use Rattle.std.proofs.lemmas.Result.{err_from_is_err_and}
 use Rattle.wac.specs.Answers.{gives}
 use Rattle.sites.specs.Notes.{note_from, formed, note_ok}
 use Rattle.sites.specs.declared.note.Note.{Note}
@@ -14,28 +15,31 @@ use Rattle.sites.proofs.site.answer_for.Goals as goal
 in_order : (bytes : List ℕ) {n : Note} → n ≡ note_from bytes → note_ok bytes ≡ true → formed n ≡ true
 in_order bytes e whole = ap formed e ∙ (note_whole _ whole).1
 
-pub returns-then-room-lt-BYTES : goal.returns-then-room-lt-BYTES
-returns-then-room-lt-BYTES c = sym (few_bytes _ _ _ _ c.if-room-lt-BYTES.true)
+pub returns-in_err-room_for_note : goal.returns-in_err-room_for_note
+returns-in_err-room_for_note c =
+    let p = err_from_is_err_and c.from_residual.result c.from_residual.ensures.1 in
+    let short = c.in_err-room_for_note.ensures in
+    rw (p.1, p.2, short.0) (sym (few_bytes _ _ _ _ short.1))
 
 pub returns-then-not-is_note : goal.returns-then-not-is_note
-returns-then-not-is_note c = sym (no_note _ _ _ _ c.if-room-lt-BYTES.false (sym c.is_note.ensures ∙ c.if-not-is_note.true))
+returns-then-not-is_note c = sym (no_note _ _ _ _ c.in_ok-room_for_note.ensures (sym c.is_note.ensures ∙ c.if-not-is_note.true))
 
 pub note_from-said-requires : goal.note_from-said-requires
 note_from-said-requires c = let whole = note_whole _ (sym c.is_note.ensures ∙ c.if-not-is_note.false) in omega arith
 
 pub returns-then-not-site : goal.returns-then-not-site
 returns-then-not-site c =
-    sym (not_live _ _ _ _ c.if-room-lt-BYTES.false (sym c.is_note.ensures ∙ c.if-not-is_note.false) _ c.note_from-said.ensures c.if-not-site.true)
+    sym (not_live _ _ _ _ c.in_ok-room_for_note.ensures (sym c.is_note.ensures ∙ c.if-not-is_note.false) _ c.note_from-said.ensures c.if-not-site.true)
 
 pub returns-then-said-site : goal.returns-then-said-site
 returns-then-said-site c =
-    sym (other_session _ _ _ _ c.if-room-lt-BYTES.false (sym c.is_note.ensures ∙ c.if-not-is_note.false) _ c.note_from-said.ensures c.if-not-site.false c.if-said-site.true)
+    sym (other_session _ _ _ _ c.in_ok-room_for_note.ensures (sym c.is_note.ensures ∙ c.if-not-is_note.false) _ c.note_from-said.ensures c.if-not-site.false c.if-said-site.true)
 
 pub returns-then-said-eq-RAISE : goal.returns-then-said-eq-RAISE
 returns-then-said-eq-RAISE c =
     ap gives (sym c.if-said-eq-RAISE.true)
     ∙ ap (λ n. gives n.kind) c.note_from-said.ensures
-    ∙ sym (taken_raise _ _ _ _ c.if-room-lt-BYTES.false (sym c.is_note.ensures ∙ c.if-not-is_note.false) _ c.note_from-said.ensures c.if-not-site.false c.if-said-site.false c.if-said-eq-RAISE.true)
+    ∙ sym (taken_raise _ _ _ _ c.in_ok-room_for_note.ensures (sym c.is_note.ensures ∙ c.if-not-is_note.false) _ c.note_from-said.ensures c.if-not-site.false c.if-said-site.false c.if-said-eq-RAISE.true)
 
 pub offset_bounds-site-entry : goal.offset_bounds-site-entry
 offset_bounds-site-entry c =
@@ -53,7 +57,7 @@ pub returns-then-site-entry : goal.returns-then-site-entry
 returns-then-site-entry c =
     let whole = sym c.is_note.ensures ∙ c.if-not-is_note.false in
     let kind = other_kind _ (in_order _ c.note_from-said.ensures whole) c.if-said-eq-RAISE.false in
-    sym (later_minute _ _ _ _ c.if-room-lt-BYTES.false whole _ c.note_from-said.ensures c.if-not-site.false c.if-said-site.false _ c.entry_of-entry.ensures kind c.if-site-entry.true)
+    sym (later_minute _ _ _ _ c.in_ok-room_for_note.ensures whole _ c.note_from-said.ensures c.if-not-site.false c.if-said-site.false _ c.entry_of-entry.ensures kind c.if-site-entry.true)
 
 pub returns : goal.returns
 returns c =
@@ -61,4 +65,4 @@ returns c =
     let kind = other_kind _ (in_order _ c.note_from-said.ensures whole) c.if-said-eq-RAISE.false in
     ap gives (sym kind)
     ∙ ap (λ n. gives n.kind) c.note_from-said.ensures
-    ∙ sym (taken_receipt _ _ _ _ c.if-room-lt-BYTES.false whole _ c.note_from-said.ensures c.if-not-site.false c.if-said-site.false _ c.entry_of-entry.ensures c.if-site-entry.false)
+    ∙ sym (taken_receipt _ _ _ _ c.in_ok-room_for_note.ensures whole _ c.note_from-said.ensures c.if-not-site.false c.if-said-site.false _ c.entry_of-entry.ensures c.if-site-entry.false)

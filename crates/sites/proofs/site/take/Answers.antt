@@ -13,56 +13,58 @@ use Prim.Native.Nat.{ℕ}
 use Rattle.wac.specs.Answers.{first_of}
 use Rattle.sites.specs.Site.{note_cases}
 use Rattle.sites.specs.declared.site.Site.{Site}
-use Rattle.sites.specs.declared.site.Taken.{Taken}
+use Rattle.sites.specs.declared.note.NoteKind.{NoteKind}
+use Rattle.sites.specs.declared.site.NoteRefused.{NoteRefused}
+use Rattle.std.specs.Prelude.{Result, Ok}
 use Rattle.sites.proofs.SiteLaws.{entry_low, taken_whole, takes_as}
 use Rattle.sites.proofs.site.take.Goals as goal
 
 -- bytes that are taken have room for a receipt, and are a note
-whole : (x : Site) (bytes : List ℕ) {room k : ℕ} (answer : Taken) →
+whole : (x : Site) (bytes : List ℕ) {room k : ℕ} (answer : Result NoteKind NoteRefused) →
     taken_as answer ≡ first_of (note_cases x bytes room) (note_from bytes).kind → taken_as answer ≡ gives k →
     (note_length ≤ room) × (length bytes ≡ note_length) × (formed (note_from bytes) ≡ true)
 whole x bytes answer from given = taken_whole _ _ _ _ (sym from ∙ given)
 
 pub note_from-said-requires : goal.note_from-said-requires
-note_from-said-requires c = let t = whole _ _ _ c.answer_for-answer.ensures (ap taken_as c.in-Raise.is) in omega arith
+note_from-said-requires c = let t = whole _ _ _ c.answer_for-answer.ensures (ap taken_as (c.in-Ok-Raise.is ∙ ap Ok (rw c.in-Ok-Raise.is at c.in-Ok-Raise.field-0-is))) in omega arith
 
 pub raise_at-raised-requires : goal.raise_at-raised-requires
 raise_at-raised-requires c =
     let e = c.entry_of.ensures ∙ ap entry_of c.note_from-said.ensures in
-    let l = entry_low _ (whole _ _ _ c.answer_for-answer.ensures (ap taken_as c.in-Raise.is)).2 in
+    let l = entry_low _ (whole _ _ _ c.answer_for-answer.ensures (ap taken_as (c.in-Ok-Raise.is ∙ ap Ok (rw c.in-Ok-Raise.is at c.in-Ok-Raise.field-0-is)))).2 in
     omega arith
 
 pub write_note-requires : goal.write_note-requires
-write_note-requires c = (whole _ _ _ c.answer_for-answer.ensures (ap taken_as c.in-Raise.is)).0
+write_note-requires c = (whole _ _ _ c.answer_for-answer.ensures (ap taken_as (c.in-Ok-Raise.is ∙ ap Ok (rw c.in-Ok-Raise.is at c.in-Ok-Raise.field-0-is)))).0
 
-pub note_from-said-requires-in-Receipt : goal.note_from-said-requires-in-Receipt
-note_from-said-requires-in-Receipt c = let t = whole _ _ _ c.answer_for-answer.ensures (ap taken_as c.in-Receipt.is) in omega arith
+pub note_from-said-requires-in-Ok-Receipt : goal.note_from-said-requires-in-Ok-Receipt
+note_from-said-requires-in-Ok-Receipt c = let t = whole _ _ _ c.answer_for-answer.ensures (ap taken_as (c.in-Ok-Receipt.is ∙ ap Ok (rw c.in-Ok-Receipt.is at c.in-Ok-Receipt.field-0-is))) in omega arith
 
 pub receipt_at-told-requires : goal.receipt_at-told-requires
 receipt_at-told-requires c =
-    let e = c.entry_of-in-Receipt.ensures ∙ ap entry_of c.note_from-said-in-Receipt.ensures in
-    let l = entry_low _ (whole _ _ _ c.answer_for-answer.ensures (ap taken_as c.in-Receipt.is)).2 in
+    let e = c.entry_of-in-Ok-Receipt.ensures ∙ ap entry_of c.note_from-said-in-Ok-Receipt.ensures in
+    let l = entry_low _ (whole _ _ _ c.answer_for-answer.ensures (ap taken_as (c.in-Ok-Receipt.is ∙ ap Ok (rw c.in-Ok-Receipt.is at c.in-Ok-Receipt.field-0-is)))).2 in
     omega arith
 
-pub returns-in-Refused : goal.returns-in-Refused
-returns-in-Refused c = takes_as c.in-Refused.is c.answer_for-answer.ensures refl refl
+pub returns-in-Err : goal.returns-in-Err
+returns-in-Err c = takes_as c.in-Err.is c.answer_for-answer.ensures refl refl
 
-pub returns-in-Raise : goal.returns-in-Raise
-returns-in-Raise c =
+pub returns-in-Ok-Raise : goal.returns-in-Ok-Raise
+returns-in-Ok-Raise c =
     let args = c.args in
     let said = c.note_from-said in
-    takes_as c.in-Raise.is c.answer_for-answer.ensures
+    takes_as (c.in-Ok-Raise.is ∙ ap Ok (rw c.in-Ok-Raise.is at c.in-Ok-Raise.field-0-is)) c.answer_for-answer.ensures
     (c.raise_at-raised.ensures
     ∙ ap (λ e. raised_site args.site e said.result.minute) c.entry_of.ensures
     ∙ ap (λ n. raised_site args.site (entry_of n) n.minute) said.ensures)
     (c.write_note.ensures ∙ ap (λ n. sets args.receipt.now 0 (note_bytes n)) (c.receipt_of.ensures ∙ ap receipt_of said.ensures))
 
-pub returns-in-Receipt : goal.returns-in-Receipt
-returns-in-Receipt c =
+pub returns-in-Ok-Receipt : goal.returns-in-Ok-Receipt
+returns-in-Ok-Receipt c =
     let args = c.args in
-    let said = c.note_from-said-in-Receipt in
-    takes_as c.in-Receipt.is c.answer_for-answer.ensures
+    let said = c.note_from-said-in-Ok-Receipt in
+    takes_as (c.in-Ok-Receipt.is ∙ ap Ok (rw c.in-Ok-Receipt.is at c.in-Ok-Receipt.field-0-is)) c.answer_for-answer.ensures
     (c.receipt_at-told.ensures
-    ∙ ap (λ e. receipted_site args.site e said.result.minute) c.entry_of-in-Receipt.ensures
+    ∙ ap (λ e. receipted_site args.site e said.result.minute) c.entry_of-in-Ok-Receipt.ensures
     ∙ ap (λ n. receipted_site args.site (entry_of n) n.minute) said.ensures)
     refl
