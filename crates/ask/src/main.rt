@@ -7,9 +7,7 @@
 
 fn main(rt: HostRuntime) {
     let mut question = io::buffer();
-    let input = lines::read_input(&rt, &mut question);
-    let count = input.count;
-    if !input.failed {
-        lines::answer(&rt, &question[..count]);
+    if let Ok(count) = lines::read_input(&rt, &mut question) {
+        let _ = lines::answer(&rt, &question[..count]);
     }
 }

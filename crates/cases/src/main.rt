@@ -3,32 +3,24 @@
 // read or a write that fails.
 #![tactic(auto)]
 
-ghost use Rattle.std.specs.Prelude.{◌<◌};
-
-// The number that two bytes make, high byte first.
-fn length_of(high: u8, low: u8) -> usize
-    ensures { result < 65536 }
-{
-    high as usize * 256 + low as usize
-}
-
-// Reads a question that fills the lent bytes and answers it, and says whether both could be done.
-fn answer_in(rt: &HostRuntime, question: &mut [u8]) -> bool {
-    if lines::read_input(rt, question).count < question.len() {
+// Fills the lent bytes from standard input, and says whether there was as much.
+fn fill(rt: &HostRuntime, bytes: &mut [u8]) -> bool {
+    let Ok(count) = lines::read_input(rt, bytes) else {
         return false;
-    }
-    lines::answer(rt, question).whole
+    };
+    count == bytes.len()
 }
 
-// Reads one question's length, answers the question, and says whether there was one.
+// Reads one question's length and the question, answers it, and says whether all of it could be done.
 fn answer_next(rt: &HostRuntime) -> bool {
     let mut head = [0u8; 2];
-    if lines::read_input(rt, &mut head).count < 2 {
+    if !fill(rt, &mut head) {
         return false;
     }
-    let length = length_of(head[0], head[1]);
-    let mut question = io::large_buffer();
-    answer_in(rt, &mut question[..length])
+    let length = usize::from(u16::from_be_bytes(head));
+    let mut buffer = io::large_buffer();
+    let question = &mut buffer[..length];
+    fill(rt, question) && lines::answer(rt, question).is_ok()
 }
 
 // A proved loop has to end, and nothing says that the input does. So the loop counts its turns, to a

@@ -1,5 +1,5 @@
 -- The lines of two sites over a scripted line.
-use Rattle.std.specs.Prelude.{◌≡◌, cond, List, [], ◌∷◌, ◌++◌, ℕ, ◌<◌, ◌≤◌, length}
+use Rattle.std.specs.Prelude.{◌≡◌, cond, List, [], ◌∷◌, ◌++◌, ℕ, ◌<◌, ◌≤◌, length, Result}
 use Rattle.wac.specs.Answers.{gives, refuses}
 use Rattle.decision.specs.Question.{refusal_number, refusal_record}
 use Rattle.decision.specs.declared.question.Refused.{Refused}
@@ -9,7 +9,7 @@ use Rattle.sites.specs.declared.site.Taken.{Taken}
 use Rattle.sites.specs.declared.site.Taken.TheVariants as takens
 use Rattle.lines.specs.Text.{space, newline, field, Put}
 use Rattle.lines.specs.Question.{line_room, refused, line, lined_as}
-use Rattle.lines.specs.declared.question.Lined.{Lined}
+use Rattle.lines.specs.declared.question.NoRoom.{NoRoom}
 use Rattle.lines.specs.declared.act.Outcome.{Outcome}
 use Rattle.lines.specs.declared.act.Outcome.TheVariants.{Quiet, Note, Nothing, Brought}
 use Rattle.lines.specs.declared.act.Unopened.{Unopened}
@@ -79,14 +79,14 @@ opening_line (First why) = refused_text (refused ++ space ∷ site_a) why
 opening_line (Second why) = refused_text (refused ++ site_b) why
 
 -- a line is put to the front of lent bytes: 23 if these are too few, and then they are as they were
-pub data Writes (text out : List ℕ) (r : Lined) (out' : List ℕ) : Type 0 where
+pub data Writes (text out : List ℕ) (r : Result ℕ NoRoom) (out' : List ℕ) : Type 0 where
   cramped : length out < line_room → lined_as r ≡ refuses 23 [] → out' ≡ out → Writes text out r out'
   written : line_room ≤ length out → (end : ℕ) → Put out 0 text end out' → lined_as r ≡ gives end → Writes text out r out'
 
 -- the line after an act
-abbrev pub Tells : Site → Site → Outcome → List ℕ → Lined → List ℕ → Type 0
+abbrev pub Tells : Site → Site → Outcome → List ℕ → Result ℕ NoRoom → List ℕ → Type 0
 Tells a b outcome = Writes (act_line a b outcome)
 
 -- the line of two sites that were not opened
-abbrev pub Declines : Unopened → List ℕ → Lined → List ℕ → Type 0
+abbrev pub Declines : Unopened → List ℕ → Result ℕ NoRoom → List ℕ → Type 0
 Declines why = Writes (opening_line why)

@@ -1,5 +1,5 @@
 -- The line of a question: document 01, "A file to judge by".
-use Rattle.std.specs.Prelude.{◌≡◌, List, [], ◌∷◌, ◌++◌, ℕ, zero, suc, ◌<◌, ◌≤◌, length, get_or, take, drop, replicate}
+use Rattle.std.specs.Prelude.{◌≡◌, List, [], ◌∷◌, ◌++◌, ℕ, zero, suc, ◌<◌, ◌≤◌, length, get_or, take, drop, replicate, Result, Ok, Err}
 use Rattle.wac.specs.Limits.{entries, chain_places}
 use Rattle.wac.specs.Answers.{Answer, gives, refuses}
 use Rattle.wac.specs.Record.{word_at}
@@ -7,9 +7,9 @@ use Rattle.decision.specs.Question.{Reply, reply_of, request_of, Judged}
 use Rattle.decision.specs.declared.request.Request.{Request}
 use Rattle.decision.specs.declared.question.Verdict.{Verdict}
 use Rattle.lines.specs.Text.{newline, fields, Put}
-use Rattle.lines.specs.declared.question.Lined.{Lined}
-use Rattle.lines.specs.declared.question.Lined.TheVariants.{Length, Refused}
-use Rattle.lines.specs.declared.printing.Printed.{Printed}
+use Rattle.lines.specs.Stream.{counted}
+use Rattle.lines.specs.declared.question.NoRoom.{NoRoom}
+use Rattle.lines.specs.declared.stream.Failed.{Failed}
 
 -- the bytes of a question before its file
 abbrev pub request_bytes : ℕ
@@ -59,14 +59,14 @@ abbrev pub cut_short : Reply
 cut_short = record { number = 9; values = [] }
 
 -- what a line comes back as: its length, or 23
-abbrev pub lined_as : Lined → Answer ℕ
-lined_as (Length n) = gives n
-lined_as Refused = refuses 23 []
+abbrev pub lined_as : Result ℕ NoRoom → Answer ℕ
+lined_as (Ok n) = gives n
+lined_as (Err e) = refuses 23 []
 
 -- the length of a line that was written, 0 where none was
-abbrev pub length_of : Lined → ℕ
-length_of (Length n) = n
-length_of Refused = 0
+abbrev pub length_of : Result ℕ NoRoom → ℕ
+length_of (Ok n) = n
+length_of (Err e) = 0
 
 -- the line of the verdict on a question is put to the front of lent bytes
 pub record Asks (s : List ℕ) (q : Request) (out : List ℕ) (end : ℕ) (out' : List ℕ) : Type 0 where
@@ -78,13 +78,13 @@ pub record Asks (s : List ℕ) (q : Request) (out : List ℕ) (end : ℕ) (out' 
   pub put : Put out 0 (line_of (reply_of verdict) chain) end out'
 
 -- the line of a question's bytes is put to the front of lent bytes: 23 if these are too few, and then they are as they were; 9; or that of the verdict
-pub data Answers (s out : List ℕ) (r : Lined) (out' : List ℕ) : Type 0 where
+pub data Answers (s out : List ℕ) (r : Result ℕ NoRoom) (out' : List ℕ) : Type 0 where
   cramped : length out < line_room → lined_as r ≡ refuses 23 [] → out' ≡ out → Answers s out r out'
   short : line_room ≤ length out → length s < request_bytes → (end : ℕ) → Put out 0 (line_of cut_short []) end out' → lined_as r ≡ gives end → Answers s out r out'
   asked : line_room ≤ length out → request_bytes ≤ length s → (end : ℕ) → Asks (drop request_bytes s) (request_in s) out end out' → lined_as r ≡ gives end →
       Answers s out r out'
 
 -- the line of a question's bytes stands in 1,024 bytes, and the length printed is its length
-pub record Prints (s : List ℕ) (r : Printed) : Type 0 where
+pub record Prints (s : List ℕ) (r : Result ℕ Failed) : Type 0 where
   pub bytes : List ℕ
-  pub line : Answers s (replicate line_room 0) (Length r.length) bytes
+  pub line : Answers s (replicate line_room 0) (Ok (counted r)) bytes

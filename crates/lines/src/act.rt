@@ -3,7 +3,7 @@ ghost use Rattle.std.specs.Prelude.{◌+◌, ◌≤◌, length};
 ghost use Rattle.lines.specs.Text.{Put};
 ghost use Rattle.lines.specs.Act.{site_text, taken_text, outcome_text, Tells, refused_text, Declines};
 
-use crate::question::{Line, Lined};
+use crate::question::{Line, NoRoom};
 use crate::text;
 use decision::Refused;
 use sites::{Site, Taken};
@@ -66,11 +66,11 @@ fn put_outcome(out: &mut [u8], at: usize, outcome: Outcome) -> usize
 }
 
 // Writes the line after an act to the front of the lent bytes, and gives its length.
-pub fn act_line(a: Site, b: Site, outcome: Outcome, out: &mut [u8]) -> Lined
+pub fn act_line(a: Site, b: Site, outcome: Outcome, out: &mut [u8]) -> Result<usize, NoRoom>
     ensures { Tells a b outcome out.old result out.new }
 {
     if out.len() < Line::ROOM {
-        return Lined::Refused;
+        return Err(NoRoom);
     }
     let named = text::put_word(out, 0, b"A");
     let first = put_site(out, named, a);
@@ -78,7 +78,7 @@ pub fn act_line(a: Site, b: Site, outcome: Outcome, out: &mut [u8]) -> Lined
     let second = put_site(out, between, b);
     let told = put_outcome(out, second, outcome);
     let end = text::put_word(out, told, b"\n");
-    Lined::Length(end)
+    Ok(end)
 }
 
 // Why two sites were not opened.
@@ -103,24 +103,24 @@ fn put_refused(out: &mut [u8], word: &[u8], why: Refused) -> usize
 }
 
 // Writes the line of two sites that were not opened to the front of the lent bytes, and gives its length.
-pub fn opening_line(why: Unopened, out: &mut [u8]) -> Lined
+pub fn opening_line(why: Unopened, out: &mut [u8]) -> Result<usize, NoRoom>
     ensures { Declines why out.old result out.new }
 {
     if out.len() < Line::ROOM {
-        return Lined::Refused;
+        return Err(NoRoom);
     }
     match why {
         Unopened::CutShort => {
             let end = text::put_line(out, b"REFUSED", &[Line::CUT_SHORT], &[]);
-            Lined::Length(end)
+            Ok(end)
         }
         Unopened::First(refused) => {
             let end = put_refused(out, b"REFUSED A", refused);
-            Lined::Length(end)
+            Ok(end)
         }
         Unopened::Second(refused) => {
             let end = put_refused(out, b"REFUSED B", refused);
-            Lined::Length(end)
+            Ok(end)
         }
     }
 }

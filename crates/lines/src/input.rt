@@ -1,22 +1,17 @@
 // Standard input, read so that its end and a failed read are told apart.
-ghost use Rattle.std.specs.Prelude.{◌≡◌, ◌<◌, length, take, false};
+ghost use Rattle.std.specs.Prelude.{◌<◌, length, take, IfOk};
 ghost use Rattle.std.specs.Io.KnownBytes.{Consumes, IsAtEnd};
 ghost use Rattle.io.specs.Counts.{IsPrefixLen};
+ghost use Rattle.lines.specs.Stream.{counted};
 
+use crate::stream::Failed;
 use std::io::Read;
 
-// How many bytes were read, and whether a read failed.
-#[derive(Clone, Copy)]
-pub struct Input {
-    pub count: usize,
-    pub failed: bool,
-}
-
 // Reads until the lent bytes are full, the reader ends or a read fails.
-fn fill<R: Read>(reader: &mut R, bytes: &mut [u8]) -> Input
-    ensures count { IsPrefixLen result.count bytes.new }
-    ensures consumed { Consumes (R.remaining reader.old) (R.remaining reader.new) (take result.count bytes.new) }
-    ensures end { result.failed ≡ false → result.count < length bytes.new → IsAtEnd (R.remaining reader.new) }
+fn fill<R: Read>(reader: &mut R, bytes: &mut [u8]) -> Result<usize, Failed>
+    ensures count { IsPrefixLen (counted result) bytes.new }
+    ensures consumed { Consumes (R.remaining reader.old) (R.remaining reader.new) (take (counted result) bytes.new) }
+    ensures end { IfOk result (λ count. count < length bytes.new → IsAtEnd (R.remaining reader.new)) }
 {
     let mut count = 0;
     while count < bytes.len() {
@@ -27,30 +22,22 @@ fn fill<R: Read>(reader: &mut R, bytes: &mut [u8]) -> Input
             Ok(n) => {
                 count += n;
             }
-            Err(_) => {
-                return Input {
-                    count: count,
-                    failed: true,
-                };
-            }
+            Err(_) => return Err(Failed { count }),
         }
     }
-    Input {
-        count: count,
-        failed: false,
-    }
+    Ok(count)
 }
 
 // Reads until the lent bytes are full, the input ends or a read fails; the last is told on standard
 // error. No contract can say which bytes there are to read; what is said is that as many as counted
 // stand at the front.
-pub fn read_input(rt: &HostRuntime, bytes: &mut [u8]) -> Input
-    ensures { IsPrefixLen result.count bytes.new }
+pub fn read_input(rt: &HostRuntime, bytes: &mut [u8]) -> Result<usize, Failed>
+    ensures { IsPrefixLen (counted result) bytes.new }
 {
     let mut stdin = rt.stdin();
-    let input = fill(&mut stdin, bytes);
-    if input.failed {
+    let count = fill(&mut stdin, bytes);
+    if count.is_err() {
         let _ = rt.eprintln("standard input cannot be read");
     }
-    input
+    count
 }

@@ -6,9 +6,11 @@ mod act;
 mod input;
 mod printing;
 mod question;
+mod stream;
 mod text;
 
 pub use act::{Outcome, Unopened, act_line, opening_line};
-pub use input::{Input, read_input};
-pub use printing::{Printed, answer, print};
-pub use question::{Line, Lined, question_line};
+pub use input::read_input;
+pub use printing::{answer, print};
+pub use question::{Line, NoRoom, question_line};
+pub use stream::Failed;

@@ -7,7 +7,7 @@
 //   NO-CHAIN passes
 //   GRANTED-LONG minute passes
 //   REFUSED number record
-ghost use Rattle.std.specs.Prelude.{◌≡◌, ◌≤◌, min, length};
+ghost use Rattle.std.specs.Prelude.{◌≤◌, length};
 ghost use Rattle.wac.specs.Limits.{chain_places};
 ghost use Rattle.decision.specs.Question.{reply_of, request_of};
 ghost use Rattle.lines.specs.Text.{Put};
@@ -32,21 +32,9 @@ impl Line {
     pub const CUT_SHORT: u64 = 9;
 }
 
-// What writing a line answers.
+// Under 1,024 bytes are lent for a line: 23.
 #[derive(Clone, Copy)]
-pub enum Lined {
-    // The line's length.
-    Length(usize),
-    // Under 1,024 lent bytes: 23.
-    Refused,
-}
-
-// The lesser of two lengths.
-pub fn least(x: usize, y: usize) -> usize
-    ensures { result ≡ min x y }
-{
-    if x < y { x } else { y }
-}
+pub struct NoRoom;
 
 // The line of a verdict.
 fn put_verdict(out: &mut [u8], verdict: Verdict, chain: &[u8]) -> usize
@@ -55,7 +43,7 @@ fn put_verdict(out: &mut [u8], verdict: Verdict, chain: &[u8]) -> usize
 {
     match verdict {
         Verdict::Granted(minute, steps, passes) => {
-            let count = least(steps as usize, chain.len());
+            let count = (steps as usize).min(chain.len());
             let numbers = [minute as u64, steps as u64, passes];
             text::put_line(out, b"GRANTED", &numbers, &chain[..count])
         }
@@ -95,18 +83,18 @@ fn put_asked(out: &mut [u8], file: &[u8], owner: u8, asker: u8, rights: u8, at: 
 
 // Writes the line of a question's bytes to the front of the lent bytes, and gives its length. Any bytes;
 // lent bytes past the line stay.
-pub fn question_line(question: &[u8], out: &mut [u8]) -> Lined
+pub fn question_line(question: &[u8], out: &mut [u8]) -> Result<usize, NoRoom>
     ensures { Answers question.now out.old result out.new }
 {
     if out.len() < Line::ROOM {
-        return Lined::Refused;
+        return Err(NoRoom);
     }
     if question.len() < Line::REQUEST {
         let end = text::put_line(out, b"REFUSED", &[Line::CUT_SHORT, 0], &[]);
-        return Lined::Length(end);
+        return Ok(end);
     }
     let at = wac::word_of(question[3], question[4], question[5], question[6]);
     let file = &question[Line::REQUEST..];
     let end = put_asked(out, file, question[0], question[1], question[2], at);
-    Lined::Length(end)
+    Ok(end)
 }

@@ -12,7 +12,7 @@ put_line-requires c =
     omega (
       arith,
       fields_words (v.minute ∷ v.steps ∷ v.passes ∷ []) (omega arith, (omega arith, (omega arith, tt))),
-      fields_bytes c.least-count.result c.args.chain.now (λ i. omega (arith, c.type_inv.chain i)),
+      fields_bytes c.min-count.result c.args.chain.now (λ i. omega (arith, c.type_inv.chain i)),
     )
 
 pub put_line-requires-in-NoChain : goal.put_line-requires-in-NoChain
@@ -32,7 +32,7 @@ put_line-requires-in-Refused c =
 pub returns-in-Granted : goal.returns-in-Granted
 returns-in-Granted c =
     let v = c.in-Granted in
-    rw (v.is, ← granted_line v.minute v.steps v.passes c.args.chain.now, ← c.least-count.ensures) c.put_line.ensures
+    rw (v.is, ← granted_line v.minute v.steps v.passes c.args.chain.now, ← c.min-count.ensures) c.put_line.ensures
 
 pub returns-in-NoChain : goal.returns-in-NoChain
 unfolding line_by
