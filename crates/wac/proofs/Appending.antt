@@ -8,15 +8,15 @@ use native.Mathlib.Omega.{arith}
 use borrow.Author.Tests.{le-ltb, ne_eqb}
 use lib.ListN.{length, get_or, take, set, length-append, length-set, length-take, get_or-append}
 use lib.Seq.{get_or-take, take-paste, drop-paste, length-paste, take-set-lt, get_or-set_other, get_or-drop}
+use Rattle.std.specs.Prelude.{Result, Ok, Err}
 use Rattle.wac.specs.Limits.{certificates, header_bytes, record_bytes}
 use Rattle.wac.specs.Bytes.{AreBytes}
-use Rattle.wac.specs.Answers.{gives, first_of}
+use Rattle.wac.specs.Answers.{gives, first_of, comes_back}
 use Rattle.wac.specs.Record.{bytes_of, Dated, Lawful}
 use Rattle.wac.specs.File.{count_of, place_of, certs_of, records_of, file_of, AllLawful, LawfulFile}
-use Rattle.wac.specs.Writer.{cert_cases, append_cases, appended, written, left, AppendedTo, used_after, InTurn}
+use Rattle.wac.specs.Writer.{cert_cases, append_cases, written, left, AppendedTo, used_after, InTurn}
 use Rattle.wac.specs.declared.cert.Cert.{Cert}
-use Rattle.wac.specs.declared.writer.Appended.{Appended}
-use Rattle.wac.specs.declared.writer.Appended.TheVariants.{Used, Refused}
+use Rattle.wac.specs.declared.refusal.Refusal.{Refusal}
 use Rattle.wac.proofs.Cases.{first_none, first_fails, gives_injective, gives_not_refuses}
 use Rattle.wac.proofs.RecordLaws.{take_bytes, kept_iff_lawful}
 use Rattle.wac.proofs.FileLaws.{accepted_iff_lawful, lawful_accepted}
@@ -47,7 +47,7 @@ module _ (b : List ℕ) (used : ℕ) (c : Cert) where
       length-paste (set b 5 v) used (bytes_of c) record_bytes (rw (length-set b 5 v) room) (omega arith) ∙ length-set b 5 v
 
   -- a lawful file that is not full, a lawful certificate and room for it are never refused
-  pub append_accepts : LawfulFile (take used b) → count_of (take used b) < certificates → Lawful c → used + record_bytes ≤ length b → {r : Appended} {b' : List ℕ} → AppendedTo b used c r b' → (r ≡ Used (used + record_bytes)) × (b' ≡ written b used c)
+  pub append_accepts : LawfulFile (take used b) → count_of (take used b) < certificates → Lawful c → used + record_bytes ≤ length b → {r : Result ℕ Refusal} {b' : List ℕ} → AppendedTo b used c r b' → (r ≡ Ok (used + record_bytes)) × (b' ≡ written b used c)
   unfolding cert_cases left
   append_accepts file not_full new room {r} {b'} to =
       let given =
@@ -60,9 +60,9 @@ module _ (b : List ℕ) (used : ℕ) (c : Cert) where
         to.buffer ∙ ap (λ a. left a b used c) given,
       )
     where
-      append_unique_answer : (r : Appended) {n : ℕ} → appended r ≡ gives n → r ≡ Used n
-      append_unique_answer (Used m) e = ap Used (gives_injective e)
-      append_unique_answer (Refused why) e = absurd (gives_not_refuses (sym e))
+      append_unique_answer : (r : Result ℕ Refusal) {n : ℕ} → comes_back r ≡ gives n → r ≡ Ok n
+      append_unique_answer (Ok m) e = ap Ok (gives_injective e)
+      append_unique_answer (Err why) e = absurd (gives_not_refuses (sym e))
 
 module _ (b : List ℕ) (bytes : AreBytes b) (used : ℕ) (c : Cert) (dated : Dated c) {n : ℕ} (accepted : first_of (append_cases b used c) (used + record_bytes) ≡ gives n) where
   -- the file before
@@ -124,7 +124,7 @@ in_turn ds (c ∷ cs) b b' used used' lawful new few at room e (r, b₁, to, lat
     let done = append_accepts b used c file (omega arith) new.0 (omega arith) to in
     let next : used_after used r ≡ used + record_bytes = ap (used_after used) done.0 in
     let more = length-append ds (c ∷ []) in
-    let ok = (append_accepted b used c (sym to.answer ∙ ap appended done.0)).0 in
+    let ok = (append_accepted b used c (sym to.answer ∙ ap comes_back done.0)).0 in
     let rest = in_turn (ds ++ (c ∷ [])) cs b₁ b' (used_after used r) used' (all_append ds (c ∷ []) lawful (new.0, tt)) new.1
     (omega arith) (omega arith)
     (omega (arith, ap length done.1, written_long b used c (omega arith)))

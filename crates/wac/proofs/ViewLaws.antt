@@ -6,17 +6,15 @@ use Prim.Native.Nat.{ℕ, ◌<◌}
 use borrow.Author.Tests.{lt-leb, leb-false}
 use denote.Ref.{Bor}
 use lib.Dec.{leb}
+use Rattle.std.specs.Prelude.{Result, Ok, Err}
 use Rattle.wac.specs.Bytes.{AreBytes}
-use Rattle.wac.specs.Answers.{Answer, gives, refuses, ◌if◌, first_of}
+use Rattle.wac.specs.Answers.{Answer, gives, refuses, ◌if◌, first_of, comes_back}
 use Rattle.wac.specs.Record.{Lawful}
-use Rattle.wac.specs.File.{count_of, place_of, record_at, cert_at, frame_cases, file_cases, checked}
-use Rattle.wac.specs.View.{number_cases, alone_cases, fetch_cases, alone, fetched, after, InRanges, ReadAlone, ViewOf, FetchedBy, FetchedFrom}
-use Rattle.wac.specs.declared.file.Checked.{Checked}
-use Rattle.wac.specs.declared.file.Checked.TheVariants.{Accepted}
+use Rattle.wac.specs.File.{count_of, place_of, record_at, cert_at, frame_cases, file_cases}
+use Rattle.wac.specs.View.{number_cases, alone_cases, fetch_cases, after, InRanges, ReadAlone, ViewOf, FetchedBy, FetchedFrom}
+use Rattle.wac.specs.declared.refusal.Refusal.{Refusal}
+use Rattle.wac.specs.declared.cert.Cert.{Cert}
 use Rattle.wac.specs.declared.view.View.{View}
-use Rattle.wac.specs.declared.view.Alone.{Alone}
-use Rattle.wac.specs.declared.view.Alone.TheVariants.{Certificate, Refused}
-use Rattle.wac.specs.declared.view.Fetched.{Fetched}
 use Rattle.wac.proofs.Cases.{first_none, first_holds, first_fails, first_passed, first_refused, first_given, first_both, gives_injective}
 use Rattle.wac.proofs.Tests.{not_not}
 use Rattle.wac.proofs.FileLaws.{frame_accepted, framed_accepted, file_kept}
@@ -36,10 +34,10 @@ module _ (s : List ℕ) (n : ℕ) where
       ∙ ap (λ k. first_of (number_cases s k n) (cert_at s n)) (frame_accepted s e).1
 
   -- what is read is in its ranges
-  pub alone_ranges : AreBytes s → (r : Alone) → alone r ≡ first_of (alone_cases s n) (cert_at s n) → InRanges (alone r)
+  pub alone_ranges : AreBytes s → (r : Result Cert Refusal) → comes_back r ≡ first_of (alone_cases s n) (cert_at s n) → InRanges (comes_back r)
   unfolding alone_cases number_cases cert_at
-  alone_ranges bytes (Refused why) e = tt
-  alone_ranges bytes (Certificate c) e =
+  alone_ranges bytes (Err why) e = tt
+  alone_ranges bytes (Ok c) e =
       let both = first_both (frame_cases s) _ (count_of s) (cert_at s n) (sym e) in
       let number = first_passed _ _ _ both.1 in
       let kept = first_passed _ _ _ number.1 in
@@ -67,23 +65,23 @@ module _ (s : List ℕ) (n : ℕ) where
       turn false below = alone_below e (leb-false _ _ below) ∙ sym (first_fails _ _ _ below ∙ first_none _)
 
   -- an answer of a check that accepts leaves what the record alone gives
-  pub kept_reads : {kept : Checked} {k : ℕ} {a : Alone} {r : Fetched} → kept ≡ Accepted k → ReadAlone s n a → alone a ≡ fetched r → FetchedBy kept s n r
-  kept_reads is read e = record {
-    answer = sym e ∙ read.answer ∙ sym (ap (λ x. after (checked x) (first_of (alone_cases s n) (cert_at s n))) is);
-    ranges = subst InRanges e read.ranges;
+  pub kept_reads : {kept : Result ℕ Refusal} {k : ℕ} {r : Result Cert Refusal} → kept ≡ Ok k → ReadAlone s n r → FetchedBy kept s n r
+  kept_reads is read = record {
+    answer = read.answer ∙ sym (ap (λ x. after (comes_back x) (first_of (alone_cases s n) (cert_at s n))) is);
+    ranges = read.ranges;
   }
 
 module _ (lent : Bor (List ℕ)) (v : View) (of : ViewOf lent v) where
   -- by the view of a file each certificate is fetched as the whole file says: 10 to 15, then 24
-  pub view_fetches : (n : ℕ) (r : Fetched) → FetchedBy v.kept v.file.now n r → FetchedFrom lent.now n r
+  pub view_fetches : (n : ℕ) (r : Result Cert Refusal) → FetchedBy v.kept v.file.now n r → FetchedFrom lent.now n r
   view_fetches n r by = record {
     answer =
         by.answer
-        ∙ ap (λ x. after (checked v.kept) (first_of (alone_cases x.now n) (cert_at x.now n))) of.file
-        ∙ checked_then lent.now n (checked v.kept) (sym of.kept);
+        ∙ ap (λ x. after (comes_back v.kept) (first_of (alone_cases x.now n) (cert_at x.now n))) of.file
+        ∙ checked_then lent.now n (comes_back v.kept) (sym of.kept);
     ranges = by.ranges;
   }
 
   -- and counted as its check does
-  pub view_counts : (r : Checked) → r ≡ v.kept → checked r ≡ first_of (file_cases lent.now) (count_of lent.now)
-  view_counts r e = ap checked e ∙ of.kept
+  pub view_counts : (r : Result ℕ Refusal) → r ≡ v.kept → comes_back r ≡ first_of (file_cases lent.now) (count_of lent.now)
+  view_counts r e = ap comes_back e ∙ of.kept

@@ -1,5 +1,5 @@
 -- What comes back: document 01, "What comes back", the rows 10 to 16 and 24. A call gives a value, or refuses with a number and the values that the row returns; refusals are one list of cases, of which the first that holds is given.
-use Rattle.std.specs.Prelude.{Bool, cond, List, [], ◌∷◌, ℕ, get_or}
+use Rattle.std.specs.Prelude.{Bool, cond, List, [], ◌∷◌, ℕ, get_or, Result, Ok, Err}
 use Rattle.wac.specs.declared.refusal.Refusal.{Refusal}
 use Rattle.wac.specs.declared.refusal.Refusal.TheVariants.{Short, NotWac, Version, TooMany, Length, Against, Room, NoSuch}
 
@@ -54,6 +54,11 @@ values_of NoSuch = []
 -- what a refusal comes back as
 abbrev pub refused : {A : Type 0} → Refusal → Answer A
 refused why = refuses (number_of why) (values_of why)
+
+-- what a call comes back as: its value, or its refusal
+abbrev pub comes_back : {A : Type 0} → Result A Refusal → Answer A
+comes_back (Ok a) = gives a
+comes_back (Err why) = refused why
 
 -- the record's number that a refusal returns, 0 where it returns none
 abbrev pub record_of : Refusal → ℕ

@@ -2,14 +2,10 @@
 use Rattle.std.specs.Prelude.{◌≡◌, Bool, true, cond, ◌&&◌, not, List, [], ◌∷◌, ◌++◌, ℕ, zero, suc, ◌+◌, ◌*◌, ◌<◌, ◌≤◌, ltb, eqb, length, get_or, drop}
 use Rattle.wac.specs.Bytes.{half}
 use Rattle.wac.specs.Limits.{certificates, header_bytes, record_bytes, version}
-use Rattle.wac.specs.Answers.{Answer, gives, Case, ◌if◌, ◌of◌if◌, refused}
+use Rattle.wac.specs.Answers.{Case, ◌if◌, ◌of◌if◌}
 use Rattle.wac.specs.Ranges.{record_ok}
 use Rattle.wac.specs.Record.{cert_from, bytes_of, Lawful}
 use Rattle.wac.specs.declared.cert.Cert.{Cert}
-use Rattle.wac.specs.declared.file.Frame.{Frame}
-use Rattle.wac.specs.declared.file.Frame.TheVariants as frames
-use Rattle.wac.specs.declared.file.Checked.{Checked}
-use Rattle.wac.specs.declared.file.Checked.TheVariants.{Accepted, Refused}
 
 -- bytes 0 to 2 are 87, 65, 67 (WAC)
 unfoldable pub is_wac : List ℕ → Bool
@@ -54,19 +50,9 @@ frame_cases s =
     ∷ (14 if not (eqb (length s) (place_of (count_of s))))
     ∷ []
 
--- what each answer of a look at the frame comes back as
-abbrev pub framed : Frame → Answer ℕ
-framed (frames.Count n) = gives n
-framed (frames.Refused why) = refused why
-
 -- the refusals of a whole file
 unfoldable pub file_cases : List ℕ → List Case
 file_cases s = frame_cases s ++ (15 of lowest_bad s (count_of s) if ltb (lowest_bad s (count_of s)) (count_of s)) ∷ []
-
--- what each answer of a check comes back as
-abbrev pub checked : Checked → Answer ℕ
-checked (Accepted n) = gives n
-checked (Refused why) = refused why
 
 -- f 0, f 1, .. f (n - 1)
 unfoldable pub listed : {A : Type 0} → ℕ → (ℕ → A) → List A

@@ -1,14 +1,13 @@
 -- The appending writer: document 01, "The certificate file", with the writer's order of refusals under "What comes back".
-use Rattle.std.specs.Prelude.{◌≡◌, not, List, [], ◌∷◌, ◌++◌, ℕ, ◌+◌, ◌-◌, ltb, eqb, length, take, set}
+use Rattle.std.specs.Prelude.{◌≡◌, not, List, [], ◌∷◌, ◌++◌, ℕ, ◌+◌, ◌-◌, ltb, eqb, length, take, set, Result, Ok, Err}
 use Rattle.std.proofs.Math.Seq.{paste}
 use Rattle.wac.specs.Limits.{certificates, record_bytes}
-use Rattle.wac.specs.Answers.{Answer, gives, refuses, Case, ◌if◌, ◌of◌if◌, first_of, refused}
+use Rattle.wac.specs.Answers.{Answer, gives, refuses, Case, ◌if◌, ◌of◌if◌, first_of, comes_back}
 use Rattle.wac.specs.Ranges.{record_ok}
 use Rattle.wac.specs.Record.{bytes_of}
 use Rattle.wac.specs.File.{count_of, file_cases}
 use Rattle.wac.specs.declared.cert.Cert.{Cert}
-use Rattle.wac.specs.declared.writer.Appended.{Appended}
-use Rattle.wac.specs.declared.writer.Appended.TheVariants.{Used, Refused}
+use Rattle.wac.specs.declared.refusal.Refusal.{Refusal}
 
 -- the refusals of a new certificate after a file with this count: full, against the table, no room in the buffer's length
 unfoldable pub cert_cases : ℕ → ℕ → ℕ → Cert → List Case
@@ -24,11 +23,6 @@ append_cases b used c =
     (16 if ltb (length b) used)
     ∷ file_cases (take used b) ++ cert_cases (length b) used (count_of (take used b)) c
 
--- what each answer of appending comes back as
-abbrev pub appended : Appended → Answer ℕ
-appended (Used n) = gives n
-appended (Refused why) = refused why
-
 -- the buffer with byte 5 raised by 1 and the certificate's 18 bytes after the used ones
 unfoldable pub written : List ℕ → ℕ → Cert → List ℕ
 written b used c = paste (set b 5 (count_of b + 1)) used (bytes_of c) record_bytes
@@ -39,17 +33,17 @@ left (gives n) b used c = written b used c
 left (refuses n vs) b used c = b
 
 -- r is the answer to appending to b, and b' is what the buffer then holds
-pub record AppendedTo (b : List ℕ) (used : ℕ) (c : Cert) (r : Appended) (b' : List ℕ) : Type 0 where
-  pub answer : appended r ≡ first_of (append_cases b used c) (used + record_bytes)
+pub record AppendedTo (b : List ℕ) (used : ℕ) (c : Cert) (r : Result ℕ Refusal) (b' : List ℕ) : Type 0 where
+  pub answer : comes_back r ≡ first_of (append_cases b used c) (used + record_bytes)
   pub buffer : b' ≡ left (first_of (append_cases b used c) (used + record_bytes)) b used c
 
 -- the used length after an answer: the new one; where the call is refused the old one
-abbrev pub used_after : ℕ → Appended → ℕ
-used_after used (Used n) = n
-used_after used (Refused why) = used
+abbrev pub used_after : ℕ → Result ℕ Refusal → ℕ
+used_after used (Ok n) = n
+used_after used (Err why) = used
 
 -- appending certificates in turn, each to what the call before it left: from b with so many bytes used to b' with used'
 abbrev pub InTurn : List Cert → List ℕ → ℕ → List ℕ → ℕ → Type 0
 InTurn [] b used b' used' = (b' ≡ b) × (used' ≡ used)
 InTurn (c ∷ cs) b used b' used' =
-    (r : Appended) × (next : List ℕ) × AppendedTo b used c r next × InTurn cs next (used_after used r) b' used'
+    (r : Result ℕ Refusal) × (next : List ℕ) × AppendedTo b used c r next × InTurn cs next (used_after used r) b' used'

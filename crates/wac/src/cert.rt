@@ -90,7 +90,5 @@ pub fn write_at(buffer: &mut [u8], at: usize, bytes: [u8; Table::RECORD])
     requires { at + record_bytes ≤ length buffer.old }
     ensures { buffer.new ≡ paste buffer.old at bytes record_bytes }
 {
-    for i in 0..Table::RECORD {
-        buffer[at + i] = bytes[i];
-    }
+    buffer[at..at + Table::RECORD].copy_from_slice(&bytes);
 }

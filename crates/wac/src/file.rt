@@ -1,107 +1,70 @@
 // The file's frame, and the check of a whole file.
-ghost use Rattle.std.specs.Prelude.{◌≡◌, ◌+◌, ◌*◌, ◌≤◌, length};
+ghost use Rattle.std.specs.Prelude.{◌≡◌, ◌+◌, ◌*◌, ◌<◌, ◌≤◌, length, unwrap_or, IfSome};
 ghost use Rattle.wac.specs.Limits.{header_bytes, record_bytes, certificates};
-ghost use Rattle.wac.specs.Answers.{first_of};
-ghost use Rattle.wac.specs.File.{
-  is_wac,
-  count_of,
-  lowest_bad,
-  frame_cases,
-  file_cases,
-  framed,
-  checked,
-};
+ghost use Rattle.wac.specs.Answers.{first_of, comes_back};
+ghost use Rattle.wac.specs.File.{is_wac, count_of, lowest_bad, frame_cases, file_cases};
 
 use crate::limits::Table;
 use crate::refusal::Refusal;
 use crate::{bytes, record};
 
-// What a file's frame says, its header and its length.
-#[derive(Clone, Copy)]
-pub enum Frame {
-    // The frame is in order, with its count. The records are not looked at.
-    Count(usize),
-    // The frame is refused.
-    Refused(Refusal),
-}
-
-// What a check of a file finds.
-#[derive(Clone, Copy)]
-pub enum Checked {
-    // The file is accepted, with its count.
-    Accepted(usize),
-    // The file is refused.
-    Refused(Refusal),
-}
-
 // Do the first three bytes say WAC?
+#[tactic(auto, unfolding(crate::specs::File::is_wac))]
 fn marked(file: &[u8]) -> bool
     requires { header_bytes ≤ length file.now }
     ensures { result ≡ is_wac file.now }
 {
-    if file[0] != b'W' {
-        return false;
-    }
-    if file[1] != b'A' {
-        return false;
-    }
-    file[2] == b'C'
+    file[0] == b'W' && file[1] == b'A' && file[2] == b'C'
 }
 
-// What the file's frame says: its count, or 10 to 14.
-pub fn frame_of(file: &[u8]) -> Frame
-    ensures { framed result ≡ first_of (frame_cases file.now) (count_of file.now) }
+// What the file's frame says, its header and its length: its count, or 10 to 14. The records are not
+// looked at.
+pub fn frame_of(file: &[u8]) -> Result<usize, Refusal>
+    ensures { comes_back result ≡ first_of (frame_cases file.now) (count_of file.now) }
 {
     if file.len() < Table::HEADER {
-        return Frame::Refused(Refusal::Short);
+        return Err(Refusal::Short);
     }
     if !marked(file) {
-        return Frame::Refused(Refusal::NotWac);
+        return Err(Refusal::NotWac);
     }
     if bytes::half_of(file[3], file[4]) != Table::VERSION {
-        return Frame::Refused(Refusal::Version);
+        return Err(Refusal::Version);
     }
     let count = file[5] as usize;
     let size = Table::HEADER + Table::RECORD * count;
     if Table::CERTIFICATES < count {
-        return Frame::Refused(Refusal::TooMany);
+        return Err(Refusal::TooMany);
     }
     if file.len() != size {
-        return Frame::Refused(Refusal::Length);
+        return Err(Refusal::Length);
     }
-    Frame::Count(count)
+    Ok(count)
 }
 
-// The lowest number of a record that is against the table, and the count where there is none.
-fn lowest_bad(file: &[u8], count: usize) -> usize
+// The lowest number of a record that is against the table, if there is one.
+#[tactic(auto, using(crate::proofs::Tests::lowest_found, crate::proofs::Tests::lowest_none), unfolding(crate::specs::File::lowest_bad))]
+fn lowest_bad(file: &[u8], count: usize) -> Option<usize>
     requires { (count ≤ certificates) × (header_bytes + record_bytes * count ≤ length file.now) }
-    ensures { result ≡ lowest_bad file.now count }
+    ensures lowest { unwrap_or result count ≡ lowest_bad file.now count }
+    ensures below { IfSome result (λ n. n < count) }
 {
-    let mut n = 0;
-    while n < count {
+    for n in 0..count {
         if !record::record_ok(file, Table::HEADER + Table::RECORD * n) {
-            return n;
+            return Some(n);
         }
-        n += 1;
     }
-    count
+    None
 }
 
 // The check of a whole file: accepted with its count, or refused by 10 to 15, the lowest number
 // first, 15 with the lowest record that is against the table.
-pub fn check(file: &[u8]) -> Checked
-    ensures { checked result ≡ first_of (file_cases file.now) (count_of file.now) }
+pub fn check(file: &[u8]) -> Result<usize, Refusal>
+    ensures { comes_back result ≡ first_of (file_cases file.now) (count_of file.now) }
 {
-    let found = frame_of(file);
-    match found {
-        Frame::Count(count) => {
-            let bad = lowest_bad(file, count);
-            if bad < count {
-                Checked::Refused(Refusal::Against(bad))
-            } else {
-                Checked::Accepted(count)
-            }
-        }
-        Frame::Refused(why) => Checked::Refused(why),
+    let count = frame_of(file)?;
+    match lowest_bad(file, count) {
+        Some(bad) => Err(Refusal::Against(bad)),
+        None => Ok(count),
     }
 }

@@ -15,8 +15,8 @@ mod writer;
 
 pub use bytes::{word_bytes, word_of};
 pub use cert::{Cert, Ids};
-pub use file::{Checked, check};
+pub use file::check;
 pub use limits::{Table, table_limits};
 pub use refusal::{Refusal, number_of, record_of};
-pub use view::{Alone, Fetched, View, count, fetch, fetch_in, record_alone, view_of};
-pub use writer::{Appended, append};
+pub use view::{View, count, fetch, fetch_in, record_alone, view_of};
+pub use writer::append;

@@ -65,23 +65,23 @@ const NO_RIGHTS: Range = Range {
 // How many bytes of a record the table permits numbers for; the dates after them may be any.
 const RANGED: usize = 10;
 
-// The permitted numbers of each byte: a row for names, a row for authorizations.
-const RANGES: [[Range; RANGED]; 2] = [
-    [
-        NAME, KEY, IDENTIFIER, KEY, NUMBER, IDENTIFIER, IDENTIFIER, IDENTIFIER, NO_MARK, NO_RIGHTS,
-    ],
-    [
-        AUTHORIZATION,
-        KEY,
-        DELEGATE,
-        KEY,
-        NUMBER,
-        IDENTIFIER,
-        IDENTIFIER,
-        IDENTIFIER,
-        MARK,
-        RIGHTS,
-    ],
+// The permitted numbers of each byte of a name certificate.
+const NAMES: [Range; RANGED] = [
+    NAME, KEY, IDENTIFIER, KEY, NUMBER, IDENTIFIER, IDENTIFIER, IDENTIFIER, NO_MARK, NO_RIGHTS,
+];
+
+// The permitted numbers of each byte of an authorization.
+const AUTHORIZATIONS: [Range; RANGED] = [
+    AUTHORIZATION,
+    KEY,
+    DELEGATE,
+    KEY,
+    NUMBER,
+    IDENTIFIER,
+    IDENTIFIER,
+    IDENTIFIER,
+    MARK,
+    RIGHTS,
 ];
 
 // The byte that holds the subject's number of identifiers, and the three that hold them.
@@ -91,22 +91,16 @@ const IDS_FROM: usize = 5;
 
 const IDS_TO: usize = 8;
 
-// The range of byte i in a row of the table.
-fn range_at(row: usize, i: usize) -> Range
-    requires { (row < 2) × (i < ranged) }
-    ensures { result ≡ range_at row i }
-{
-    RANGES[row][i]
-}
-
-// The row of the table for a kind.
-fn row_of(kind: u8) -> usize
-    ensures { (result ≡ row_of kind) × (result < 2) }
+// The range of byte i in a record of this kind.
+#[tactic(auto, unfolding(crate::specs::Ranges::range_at, crate::specs::Ranges::names, crate::specs::Ranges::authorizations))]
+fn range_at(kind: u8, i: usize) -> Range
+    requires { i < ranged }
+    ensures { result ≡ range_at (row_of kind) i }
 {
     if kind == Table::AUTHORIZATION as u8 {
-        1
+        AUTHORIZATIONS[i]
     } else {
-        0
+        NAMES[i]
     }
 }
 
@@ -114,47 +108,41 @@ fn row_of(kind: u8) -> usize
 fn within(range: Range, b: u8) -> bool
     ensures { result ≡ in_range range b }
 {
-    if range.least <= b {
-        b <= range.greatest
-    } else {
-        false
-    }
+    range.least <= b && b <= range.greatest
 }
 
 // Is byte i one of the three for identifiers, and past the subject's number of them?
+#[tactic(auto, unfolding(crate::specs::Ranges::spare))]
 fn is_spare(number: u8, i: usize) -> bool
     ensures { result ≡ spare number i }
 {
-    if IDS_TO <= i {
-        return false;
-    }
-    IDS_FROM + number as usize <= i
+    i < IDS_TO && IDS_FROM + number as usize <= i
 }
 
 // Is byte i of the record at `at` as the table says?
+#[tactic(auto, unfolding(crate::specs::Ranges::byte_ok))]
 fn byte_ok(file: &[u8], at: usize, i: usize) -> bool
     requires { (at + record_bytes ≤ length file.now) × (i < ranged) }
     ensures { result ≡ byte_ok (drop at file.now) i }
 {
     let b = file[at + i];
     if is_spare(file[at + NUMBER_AT], i) {
-        return b == Table::UNUSED as u8;
+        b == Table::UNUSED as u8
+    } else {
+        within(range_at(file[at], i), b)
     }
-    let row = row_of(file[at]);
-    within(range_at(row, i), b)
 }
 
 // Does the record at `at` keep to the table?
+#[tactic(auto, using(crate::proofs::Tests::all_below_true, crate::proofs::Tests::all_below_false), unfolding(crate::specs::Ranges::record_ok))]
 pub fn record_ok(file: &[u8], at: usize) -> bool
     requires { at + record_bytes ≤ length file.now }
     ensures { result ≡ record_ok (drop at file.now) }
 {
-    let mut i = 0;
-    while i < RANGED {
+    for i in 0..RANGED {
         if !byte_ok(file, at, i) {
             return false;
         }
-        i += 1;
     }
     true
 }

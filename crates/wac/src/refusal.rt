@@ -44,13 +44,7 @@ pub fn record_of(why: Refusal) -> usize
     ensures { result ≡ record_of why }
 {
     match why {
-        Refusal::Short => 0,
-        Refusal::NotWac => 0,
-        Refusal::Version => 0,
-        Refusal::TooMany => 0,
-        Refusal::Length => 0,
         Refusal::Against(n) => n,
-        Refusal::Room => 0,
-        Refusal::NoSuch => 0,
+        _ => 0,
     }
 }

@@ -3,23 +3,13 @@ ghost use Rattle.std.specs.Prelude.{◌≡◌, ◌+◌, ◌*◌, ◌-◌, ◌≤
 ghost use Rattle.wac.specs.Limits.{record_bytes};
 ghost use Rattle.wac.specs.Ranges.{record_ok};
 ghost use Rattle.wac.specs.Record.{bytes_of};
-ghost use Rattle.wac.specs.Answers.{first_of};
-ghost use Rattle.wac.specs.Writer.{cert_cases, append_cases, appended, AppendedTo};
+ghost use Rattle.wac.specs.Answers.{first_of, comes_back};
+ghost use Rattle.wac.specs.Writer.{cert_cases, append_cases, AppendedTo};
 
 use crate::cert::Cert;
-use crate::file::Checked;
 use crate::limits::Table;
 use crate::refusal::Refusal;
 use crate::{cert, file, record};
-
-// What appending answers.
-#[derive(Clone, Copy)]
-pub enum Appended {
-    // The certificate is written: the new used length.
-    Used(usize),
-    // The call is refused, and nothing is written.
-    Refused(Refusal),
-}
 
 // Does the certificate keep to the table?
 fn cert_ok(cert: Cert) -> bool
@@ -30,49 +20,43 @@ fn cert_ok(cert: Cert) -> bool
 }
 
 // The answer where the used part is a file with this count: full, the new certificate, room.
-fn answer_for(length: usize, used: usize, count: usize, cert: Cert) -> Appended
+fn answer_for(length: usize, used: usize, count: usize, cert: Cert) -> Result<usize, Refusal>
     requires { used ≤ length }
-    ensures { appended result ≡ first_of (cert_cases length used count cert) (used + record_bytes) }
+    ensures { comes_back result ≡ first_of (cert_cases length used count cert) (used + record_bytes) }
 {
     if count == Table::CERTIFICATES {
-        return Appended::Refused(Refusal::TooMany);
+        return Err(Refusal::TooMany);
     }
     if !cert_ok(cert) {
-        return Appended::Refused(Refusal::Against(count));
+        return Err(Refusal::Against(count));
     }
     if length - used < Table::RECORD {
-        return Appended::Refused(Refusal::Room);
+        return Err(Refusal::Room);
     }
-    Appended::Used(used + Table::RECORD)
+    Ok(used + Table::RECORD)
 }
 
 // The answer, before anything is written.
-fn answer(buffer: &[u8], used: usize, cert: Cert) -> Appended
-    ensures { appended result ≡ first_of (append_cases buffer.now used cert) (used + record_bytes) }
+fn answer(buffer: &[u8], used: usize, cert: Cert) -> Result<usize, Refusal>
+    ensures { comes_back result ≡ first_of (append_cases buffer.now used cert) (used + record_bytes) }
 {
     let length = buffer.len();
     if length < used {
-        return Appended::Refused(Refusal::Room);
+        return Err(Refusal::Room);
     }
-    let found = file::check(&buffer[..used]);
-    match found {
-        Checked::Accepted(count) => answer_for(length, used, count, cert),
-        Checked::Refused(why) => Appended::Refused(why),
-    }
+    let count = file::check(&buffer[..used])?;
+    answer_for(length, used, count, cert)
 }
 
 // Appends a certificate to the file in the buffer's first `used` bytes: raises byte 5 by 1, writes
 // the next 18 bytes and no others, and answers the new used length; or 16 where the used length is
 // past the buffer, 10 to 15 of the used part, 13 where it is full, 15 with the count where the new
 // certificate is against the table, 16 where under 18 bytes are left.
-pub fn append(buffer: &mut [u8], used: usize, cert: Cert) -> Appended
+pub fn append(buffer: &mut [u8], used: usize, cert: Cert) -> Result<usize, Refusal>
     ensures { AppendedTo buffer.old used cert result buffer.new }
 {
-    let answered = answer(buffer, used, cert);
-    let Appended::Used(next) = answered else {
-        return answered;
-    };
-    buffer[5] = buffer[5] + 1;
+    let next = answer(buffer, used, cert)?;
+    buffer[5] += 1;
     cert::write_at(buffer, used, cert::bytes_of(cert));
-    Appended::Used(next)
+    Ok(next)
 }
