@@ -10,7 +10,4 @@ mod note;
 mod site;
 
 pub use note::{Note, NoteKind};
-pub use site::{
-    NoteRefused, Opening, Showing, Site, Taking, next, note_refusal_number, open, rests, shown,
-    take, work,
-};
+pub use site::{NoteRefused, Opening, Showing, Site, Taking, note_refusal_number};

@@ -10,8 +10,8 @@ use Rattle.decision.specs.declared.question.Settling.{Settling}
 use Rattle.sites.specs.declared.site.Site.{Site}
 use Rattle.sites.specs.Site.{file_of, Works.worked, Works.refused}
 use Rattle.sites.proofs.SiteLaws.{settle_stays}
-use Rattle.sites.proofs.site.work.Goals as goal
-use Rattle.sites.proofs.site.work.Goals.{then-used-gt-LARGEST, else-used-gt-LARGEST}
+use Rattle.sites.proofs.site.Site.work.Goals as goal
+use Rattle.sites.proofs.site.Site.work.Goals.{then-used-gt-LARGEST, else-used-gt-LARGEST}
 
 -- the site's own file settles the table
 settles : (x : Site) {used : ℕ} (r : Settling) {table : List ℕ} → used ≡ min x.used largest_file →
@@ -20,11 +20,11 @@ settles x r {table} e by = subst (λ n. Settles (take n x.file) x.request r x.mi
 
 pub returns-in-Refused : goal.returns-in-Refused
 returns-in-Refused c =
-    let used : c.if-used-gt-LARGEST.used ≡ min c.args.site.used largest_file = elim c.if-used-gt-LARGEST.branch [ then-used-gt-LARGEST w ↦ omega arith | else-used-gt-LARGEST w ↦ omega arith ] in
-    refused _ (settle_stays _ (settles c.args.site _ used c.settle-settling.ensures) c.in-Refused.is) refl
+    let used : c.if-used-gt-LARGEST.used ≡ min c.args.self.used largest_file = elim c.if-used-gt-LARGEST.branch [ then-used-gt-LARGEST w ↦ omega arith | else-used-gt-LARGEST w ↦ omega arith ] in
+    refused _ (settle_stays _ (settles c.args.self _ used c.settle-settling.ensures) c.in-Refused.is) refl
 
 pub returns-in-Passes : goal.returns-in-Passes
 returns-in-Passes c =
-    let x = c.args.site in
-    let used : c.if-used-gt-LARGEST.used ≡ min c.args.site.used largest_file = elim c.if-used-gt-LARGEST.branch [ then-used-gt-LARGEST w ↦ omega arith | else-used-gt-LARGEST w ↦ omega arith ] in
-    worked _ _ (subst (λ r. Settles (file_of x) x.request r x.minutes c.settle-settling.new.table) c.in-Passes.is (settles c.args.site _ used c.settle-settling.ensures)) refl
+    let x = c.args.self in
+    let used : c.if-used-gt-LARGEST.used ≡ min c.args.self.used largest_file = elim c.if-used-gt-LARGEST.branch [ then-used-gt-LARGEST w ↦ omega arith | else-used-gt-LARGEST w ↦ omega arith ] in
+    worked _ _ (subst (λ r. Settles (file_of x) x.request r x.minutes c.settle-settling.new.table) c.in-Passes.is (settles c.args.self _ used c.settle-settling.ensures)) refl

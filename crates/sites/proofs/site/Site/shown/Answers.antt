@@ -2,16 +2,16 @@
 use native.Mathlib.Omega.{arith}
 use Rattle.sites.specs.Site.{showing}
 use Rattle.sites.proofs.SiteLaws.{table_none, table_there}
-use Rattle.sites.proofs.site.shown.Goals as goal
+use Rattle.sites.proofs.site.Site.shown.Goals as goal
 
 pub returns-then-entry-ge-ENTRIES : goal.returns-then-entry-ge-ENTRIES
 unfolding showing
 returns-then-entry-ge-ENTRIES c =
     let e = c.entry_number-entry.ensures in
-    rw (table_none c.args.site.request.owner 10 16 c.args.site.minutes (omega (arith, c.if-entry-ge-ENTRIES.true)))
+    rw (table_none c.args.self.now.request.owner 10 16 c.args.self.now.minutes (omega (arith, c.if-entry-ge-ENTRIES.true)))
 
 pub returns : goal.returns
 unfolding showing
 returns c =
     let e = c.entry_number-entry.ensures in
-    rw (table_there c.args.site.request.owner 10 16 c.args.site.minutes (omega (arith, c.if-entry-ge-ENTRIES.false)), ← e)
+    rw (table_there c.args.self.now.request.owner 10 16 c.args.self.now.minutes (omega (arith, c.if-entry-ge-ENTRIES.false)), ← e)

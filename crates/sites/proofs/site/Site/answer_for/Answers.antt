@@ -9,7 +9,7 @@ use Rattle.wac.specs.Answers.{gives}
 use Rattle.sites.specs.Notes.{note_from, formed, note_ok}
 use Rattle.sites.specs.declared.note.Note.{Note}
 use Rattle.sites.proofs.SiteLaws.{note_whole, other_kind, entry_low, few_bytes, no_note, not_live, other_session, taken_raise, later_minute, taken_receipt}
-use Rattle.sites.proofs.site.answer_for.Goals as goal
+use Rattle.sites.proofs.site.Site.answer_for.Goals as goal
 
 -- a note that is whole is in order
 in_order : (bytes : List ℕ) {n : Note} → n ≡ note_from bytes → note_ok bytes ≡ true → formed n ≡ true
@@ -27,37 +27,37 @@ returns-then-not-is_note c = sym (no_note _ _ _ _ c.in_ok-room_for_note.ensures 
 pub note_from-said-requires : goal.note_from-said-requires
 note_from-said-requires c = let whole = note_whole _ (sym c.is_note.ensures ∙ c.if-not-is_note.false) in omega arith
 
-pub returns-then-not-site : goal.returns-then-not-site
-returns-then-not-site c =
-    sym (not_live _ _ _ _ c.in_ok-room_for_note.ensures (sym c.is_note.ensures ∙ c.if-not-is_note.false) _ c.note_from-said.ensures c.if-not-site.true)
+pub returns-then-not-self : goal.returns-then-not-self
+returns-then-not-self c =
+    sym (not_live _ _ _ _ c.in_ok-room_for_note.ensures (sym c.is_note.ensures ∙ c.if-not-is_note.false) _ c.note_from-said.ensures c.if-not-self.true)
 
-pub returns-then-said-site : goal.returns-then-said-site
-returns-then-said-site c =
-    sym (other_session _ _ _ _ c.in_ok-room_for_note.ensures (sym c.is_note.ensures ∙ c.if-not-is_note.false) _ c.note_from-said.ensures c.if-not-site.false c.if-said-site.true)
+pub returns-then-said-self : goal.returns-then-said-self
+returns-then-said-self c =
+    sym (other_session _ _ _ _ c.in_ok-room_for_note.ensures (sym c.is_note.ensures ∙ c.if-not-is_note.false) _ c.note_from-said.ensures c.if-not-self.false c.if-said-self.true)
 
 pub returns-then-said-eq-RAISE : goal.returns-then-said-eq-RAISE
 returns-then-said-eq-RAISE c =
     ap gives (sym c.if-said-eq-RAISE.true)
     ∙ ap (λ n. gives n.kind) c.note_from-said.ensures
-    ∙ sym (taken_raise _ _ _ _ c.in_ok-room_for_note.ensures (sym c.is_note.ensures ∙ c.if-not-is_note.false) _ c.note_from-said.ensures c.if-not-site.false c.if-said-site.false c.if-said-eq-RAISE.true)
+    ∙ sym (taken_raise _ _ _ _ c.in_ok-room_for_note.ensures (sym c.is_note.ensures ∙ c.if-not-is_note.false) _ c.note_from-said.ensures c.if-not-self.false c.if-said-self.false c.if-said-eq-RAISE.true)
 
-pub offset_bounds-site-entry : goal.offset_bounds-site-entry
-offset_bounds-site-entry c =
+pub offset_bounds-self-entry : goal.offset_bounds-self-entry
+offset_bounds-self-entry c =
     let e = c.entry_of-entry.ensures in
     let l = entry_low _ (in_order _ c.note_from-said.ensures (sym c.is_note.ensures ∙ c.if-not-is_note.false)) in
     omega arith
 
-pub bounds-site-entry : goal.bounds-site-entry
-bounds-site-entry c =
+pub bounds-self-entry : goal.bounds-self-entry
+bounds-self-entry c =
     let e = c.entry_of-entry.ensures in
     let l = entry_low _ (in_order _ c.note_from-said.ensures (sym c.is_note.ensures ∙ c.if-not-is_note.false)) in
     omega arith
 
-pub returns-then-site-entry : goal.returns-then-site-entry
-returns-then-site-entry c =
+pub returns-then-self-entry : goal.returns-then-self-entry
+returns-then-self-entry c =
     let whole = sym c.is_note.ensures ∙ c.if-not-is_note.false in
     let kind = other_kind _ (in_order _ c.note_from-said.ensures whole) c.if-said-eq-RAISE.false in
-    sym (later_minute _ _ _ _ c.in_ok-room_for_note.ensures whole _ c.note_from-said.ensures c.if-not-site.false c.if-said-site.false _ c.entry_of-entry.ensures kind c.if-site-entry.true)
+    sym (later_minute _ _ _ _ c.in_ok-room_for_note.ensures whole _ c.note_from-said.ensures c.if-not-self.false c.if-said-self.false _ c.entry_of-entry.ensures kind c.if-self-entry.true)
 
 pub returns : goal.returns
 returns c =
@@ -65,4 +65,4 @@ returns c =
     let kind = other_kind _ (in_order _ c.note_from-said.ensures whole) c.if-said-eq-RAISE.false in
     ap gives (sym kind)
     ∙ ap (λ n. gives n.kind) c.note_from-said.ensures
-    ∙ sym (taken_receipt _ _ _ _ c.in_ok-room_for_note.ensures whole _ c.note_from-said.ensures c.if-not-site.false c.if-said-site.false _ c.entry_of-entry.ensures c.if-site-entry.false)
+    ∙ sym (taken_receipt _ _ _ _ c.in_ok-room_for_note.ensures whole _ c.note_from-said.ensures c.if-not-self.false c.if-said-self.false _ c.entry_of-entry.ensures c.if-self-entry.false)

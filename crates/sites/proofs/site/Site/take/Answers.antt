@@ -17,7 +17,7 @@ use Rattle.sites.specs.declared.note.NoteKind.{NoteKind}
 use Rattle.sites.specs.declared.site.NoteRefused.{NoteRefused}
 use Rattle.std.specs.Prelude.{Result, Ok}
 use Rattle.sites.proofs.SiteLaws.{entry_low, taken_whole, takes_as}
-use Rattle.sites.proofs.site.take.Goals as goal
+use Rattle.sites.proofs.site.Site.take.Goals as goal
 
 -- bytes that are taken have room for a receipt, and are a note
 whole : (x : Site) (bytes : List ℕ) {room k : ℕ} (answer : Result NoteKind NoteRefused) →
@@ -55,8 +55,8 @@ returns-in-Ok-Raise c =
     let said = c.note_from-said in
     takes_as (c.in-Ok-Raise.is ∙ ap Ok (rw c.in-Ok-Raise.is at c.in-Ok-Raise.field-0-is)) c.answer_for-answer.ensures
     (c.raise_at-raised.ensures
-    ∙ ap (λ e. raised_site args.site e said.result.minute) c.entry_of.ensures
-    ∙ ap (λ n. raised_site args.site (entry_of n) n.minute) said.ensures)
+    ∙ ap (λ e. raised_site args.self e said.result.minute) c.entry_of.ensures
+    ∙ ap (λ n. raised_site args.self (entry_of n) n.minute) said.ensures)
     (c.write_note.ensures ∙ ap (λ n. sets args.receipt.now 0 (note_bytes n)) (c.receipt_of.ensures ∙ ap receipt_of said.ensures))
 
 pub returns-in-Ok-Receipt : goal.returns-in-Ok-Receipt
@@ -65,6 +65,6 @@ returns-in-Ok-Receipt c =
     let said = c.note_from-said-in-Ok-Receipt in
     takes_as (c.in-Ok-Receipt.is ∙ ap Ok (rw c.in-Ok-Receipt.is at c.in-Ok-Receipt.field-0-is)) c.answer_for-answer.ensures
     (c.receipt_at-told.ensures
-    ∙ ap (λ e. receipted_site args.site e said.result.minute) c.entry_of-in-Ok-Receipt.ensures
-    ∙ ap (λ n. receipted_site args.site (entry_of n) n.minute) said.ensures)
+    ∙ ap (λ e. receipted_site args.self e said.result.minute) c.entry_of-in-Ok-Receipt.ensures
+    ∙ ap (λ n. receipted_site args.self (entry_of n) n.minute) said.ensures)
     refl

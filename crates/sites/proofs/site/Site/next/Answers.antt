@@ -6,7 +6,7 @@ use Rattle.std.proofs.lemmas.Result.{err_from_is_err_and}
 use Rattle.wac.proofs.Cases.{first_holds}
 use Rattle.sites.specs.Notes.{note_bytes}
 use Rattle.sites.proofs.SiteLaws.{next_some, next_none, send_given}
-use Rattle.sites.proofs.site.next.Goals as goal
+use Rattle.sites.proofs.site.Site.next.Goals as goal
 
 pub returns-in_err-room_for_note : goal.returns-in_err-room_for_note
 returns-in_err-room_for_note c =
