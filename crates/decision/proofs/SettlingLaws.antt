@@ -1,6 +1,6 @@
 -- Laws of passes until one changes nothing: what the loop of passes keeps, that it ends, and what it leaves.
 use mathlib.Core.Path.{◌≡◌, refl, sym, ap, ◌∙◌, subst}
-use mathlib.Core.Bool.{Bool, true, false, true≢false}
+use mathlib.Core.Bool.{true}
 use mathlib.Core.Logic.{⊎_elim, by_cases}
 use mathlib.Core.List.{List, [], ◌∷◌}
 use Prim.Native.Nat.{ℕ, zero, suc, ◌+◌, ◌-◌, ◌*◌, ◌<◌, ◌≤◌}
@@ -8,13 +8,9 @@ use native.Mathlib.Omega.{arith}
 use native.Mathlib.Numerals.{add-one}
 use native.Mathlib.Decide.{ℕ_discrete}
 use borrow.Author.Count.{below_none, below_more}
-use borrow.Author.Tests.{eqb-true, eq-eqb}
-use lib.Dec.{eqb}
 use lib.ListN.{length, get_or, take, drop}
 use lib.Seq.{length-take-le, take_all}
 use Rattle.wac.specs.Limits.{entries}
-use Rattle.wac.specs.Ranges.{all_below}
-use Rattle.wac.proofs.Tests.{all_below_true, all_below_at}
 use Rattle.rewriting.specs.Weighing.{minutes, steps, endless}
 use Rattle.rewriting.specs.Rewriting.{Rules, Question}
 use Rattle.rewriting.specs.Entries.{Lawful}
@@ -28,7 +24,7 @@ use Rattle.decision.specs.Engine.{Within, held, Passed, SettledFrom}
 use Rattle.decision.specs.declared.request.Request.{Request}
 use Rattle.decision.specs.declared.lens.Lens.{Lens}
 use Rattle.decision.specs.declared.lens.Lens.TheVariants.{Minutes, Steps}
-use Rattle.decision.proofs.TableLaws.{entry_of_lem, is_entry_lem, number_low, number_back, entry_back, row_same, row_at, held_at, list_held, held_row, within_row}
+use Rattle.decision.proofs.TableLaws.{entry_of_lem, is_entry_lem, number_low, number_back, entry_back, row_same, row_entry, row_at, held_at, list_held, held_row, within_row}
 
 -- the first 2,592 places of a list within the cap are within
 pub within_take : (lens : Lens) (l : List ℕ) → Within lens l → Within lens (take entries l)
@@ -93,8 +89,7 @@ module _ {lens : Lens} {s : List ℕ} {q : Request} {t₀ t : List ℕ} {k : ℕ
   going_few = omega (arith, g.falls, ranks_most g.lawful (list_held lens q.asker t₀ g.begun), cap_low lens)
 
   -- one pass more, from the copy `old` of the table
-  module _ {old t' : List ℕ} {r : Bool} (copied : old ≡ take entries t) (p : Passed lens s q old t t')
-      (flag : r ≡ all_below entries (λ e. eqb (get_or old e 0) (get_or t' e 0))) where
+  module _ {old t' : List ℕ} (copied : old ≡ take entries t) (p : Passed lens s q old t t') where
     old_row : take entries old ≡ row_of (later k)
     old_row = ap (take entries) copied ∙ take_all entries (take entries t) (omega (arith, length-take-le entries t g.within.long)) ∙ g.row
 
@@ -108,51 +103,45 @@ module _ {lens : Lens} {s : List ℕ} {q : Request} {t₀ t : List ℕ} {k : ℕ
     unfolding repeated
     next = rw (add-one k) next_row
 
-    -- the copy is the same as the new table exactly if the pass changed nothing
-    still_true : r ≡ true → Still Q R (later k)
-    still_true e k' x a h =
+    -- the copy is the new table's first places exactly if the pass changed nothing
+    same_still : old ≡ take entries t' → Still Q R (later k)
+    same_still same k' x a h =
         let i = is_entry_lem k' x a h in
-        let same = eqb-true _ _ (all_below_at entries (λ e. eqb (get_or old e 0) (get_or t' e 0)) (sym flag ∙ e) (number k' x a) (number_low k' x a i)) in
-        sym (row_at (pass Q R (later k)) t' next_row k' x a i) ∙ sym same ∙ row_at (later k) old old_row k' x a i
+        sym (row_entry (pass Q R (later k)) k' x a i) ∙ ap (λ l. get_or l (number k' x a) 0) (sym next_row ∙ sym same ∙ copied ∙ g.row) ∙ row_entry (later k) k' x a i
 
-    true_still : Still Q R (later k) → r ≡ true
-    true_still still = flag ∙ all_below_true entries _ (λ e low. eq-eqb (get_or old e 0) (get_or t' e 0)
-        (subst (λ n. get_or old n 0 ≡ get_or t' n 0) (number_back e low) (same (key_of e) (symbol_of e) (arrival_of e) (entry_back e low))))
-      where
-        same : (k' x a : ℕ) → is_entry k' x a ≡ true → get_or old (number k' x a) 0 ≡ get_or t' (number k' x a) 0
-        same k' x a i = row_at (later k) old old_row k' x a i ∙ sym (still k' x a (entry_of_lem k' x a i)) ∙ sym (row_at (pass Q R (later k)) t' next_row k' x a i)
+    still_same : Still Q R (later k) → old ≡ take entries t'
+    still_same still = copied
+        ∙ row_same (pass Q R (later k)) t g.within.long (λ k' x a i. row_at (later k) t g.row k' x a i ∙ sym (still k' x a (entry_of_lem k' x a i)))
+        ∙ sym next_row
 
-    moved : r ≡ false → Still Q R (later k) → ⊥
-    moved e still = true≢false (sym (true_still still) ∙ e)
-
-    fall : r ≡ false → (k + 1) + ranks Q (later (k + 1)) ≤ ranks Q (held lens t₀)
+    fall : (old ≡ take entries t' → ⊥) → (k + 1) + ranks Q (later (k + 1)) ≤ ranks Q (held lens t₀)
     unfolding repeated
-    fall e = rw (add-one k) (⊎_elim (λ still. absurd (moved e still)) (λ less. omega (arith, g.falls)) (ranks_fall g.lawful (later_held k)))
+    fall moved = rw (add-one k) (⊎_elim (λ still. absurd (moved (still_same still))) (λ less. omega (arith, g.falls)) (ranks_fall g.lawful (later_held k)))
 
-    pub going_more : r ≡ false → Going lens s q t₀ t' (k + 1)
-    going_more e = record {
+    pub going_more : (old ≡ take entries t' → ⊥) → Going lens s q t₀ t' (k + 1)
+    going_more moved = record {
       lawful = g.lawful;
       begun = g.begun;
       long = p.long ∙ g.long;
       beyond = p.beyond ∙ g.beyond;
       within = within_row lens q.asker (later (k + 1)) (later_held (k + 1)) t' next t g.within p.long p.beyond;
       row = next;
-      each = below_more _ k g.each (moved e);
-      falls = fall e;
+      each = below_more _ k g.each (λ still. moved (still_same still));
+      falls = fall moved;
     }
 
     -- and the loop comes nearer to its end
-    pub going_less : r ≡ false → ranks Q (held lens t₀) - (k + 1) < ranks Q (held lens t₀) - k
-    going_less e = omega (arith, fall e)
+    pub going_less : (old ≡ take entries t' → ⊥) → ranks Q (held lens t₀) - (k + 1) < ranks Q (held lens t₀) - k
+    going_less moved = omega (arith, fall moved)
 
-    pub settled : r ≡ true → SettledFrom lens s q t₀ (k + 1) t'
-    settled e = record {
+    pub settled : old ≡ take entries t' → SettledFrom lens s q t₀ (k + 1) t'
+    settled same = record {
       long = p.long ∙ g.long;
       beyond = p.beyond ∙ g.beyond;
       count = record {
         before = k;
         one_more = add-one k;
-        still = still_true e;
+        still = same_still same;
         first = λ n still. by_cases (ℕ_discrete (k - n) 0) (λ z. omega arith) (λ z. absurd (g.each n (omega arith) still));
       };
       row = next;

@@ -11,6 +11,8 @@ use borrow.Author.Tests.{ltb-true, ltb-false, leb-true, eqb-true, lt-ltb, le-ltb
 use lib.Dec.{leb, ltb, eqb}
 use lib.ListN.{length, get_or, take, drop, set}
 use lib.Seq.{length-take-le, get_or-take, get_or-drop, ext_get_or, take-suc, take-suc-set, get_or-set_same, get_or-set_other}
+use Rattle.std.specs.Prelude.{Option, Some, None}
+use Rattle.std.specs.Option.{unwrap_or}
 use Rattle.wac.specs.Limits.{keys, identifiers, access, end_place, named_entries, entries}
 use Rattle.wac.proofs.Tests.{and_both}
 use Rattle.wac.proofs.RoundTrip.{length_listed, get_d_listed}
@@ -20,7 +22,7 @@ use Rattle.rewriting.specs.Tables.{Held}
 use Rattle.rewriting.proofs.Tests.{by_test}
 use Rattle.rewriting.proofs.Held.{held_same}
 use Rattle.decision.specs.Lens.{weighing_of, question_by}
-use Rattle.decision.specs.Table.{is_entry, arrivals_of, number, key_of, symbol_of, arrival_of, table_of, row_of}
+use Rattle.decision.specs.Table.{is_entry, arrivals_of, number, entry_number, NumberOf, key_of, symbol_of, arrival_of, table_of, row_of}
 use Rattle.decision.specs.Engine.{Within, held}
 use Rattle.decision.specs.declared.lens.Lens.{Lens}
 
@@ -190,6 +192,11 @@ module _ (e : ℕ) (low : e < entries) where
       let n = number_mark (key_of e) (symbol_of e) (arrival_of e) (omega arith) in
       omega arith))
       (sorts e)
+
+-- what comes back for an entry, with 2,592 for none, is the number of `entry_number`
+pub number_given : (k s a : ℕ) (r : Option ℕ) → NumberOf k s a r → unwrap_or r entries ≡ entry_number k s a
+number_given k s a (Some n) e = rw e.0 e.1
+number_given k s a None e = rw e
 
 -- entries of one number are one entry
 pub number_same : (k s a k' s' a' : ℕ) → is_entry k s a ≡ true → is_entry k' s' a' ≡ true → number k s a ≡ number k' s' a' → (k ≡ k') × (s ≡ s') × (a ≡ a')

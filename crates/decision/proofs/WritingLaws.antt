@@ -51,54 +51,19 @@ unfolding table_of steps
 at_fits floor l k x a w = by_test (λ n. n ≤ uncounted) (is_entry k x a) (λ e. w.fits _) (λ e. omega arith)
 
 -- the tests of a certificate that brings an entry about
-abbrev passes : Request → ℕ → List ℕ → Cert → ℕ → ℕ → ℕ → Bool
+abbrev pub passes : Request → ℕ → List ℕ → Cert → ℕ → ℕ → ℕ → Bool
 passes q floor l c k x a =
     ((live_by (Steps floor) q c && eqb c.issuer k) && eqb c.left x) && eqb (steps_read floor l c 0 c.subject a + 1) (steps_at floor l k x a)
 
--- four tests in turn: one that fails, and three that hold
-first_false : (a b c d : Bool) → a ≡ false → (((a && b) && c) && d) ≡ false
-first_false a b c d e = rw e
-
-second_false : (a b c d : Bool) → b ≡ false → (((a && b) && c) && d) ≡ false
-second_false true b c d e = rw e
-second_false false b c d e = refl
-
-third_false : (a b c d : Bool) → c ≡ false → (((a && b) && c) && d) ≡ false
-third_false true true c d e = rw e
-third_false true false c d e = refl
-third_false false b c d e = refl
-
-three_true : (a b c d : Bool) → a ≡ true → b ≡ true → c ≡ true → (((a && b) && c) && d) ≡ d
-three_true a b c d e f g = rw (e, f, g)
-
 module _ (s : List ℕ) (q : Request) (floor : ℕ) (l : List ℕ) (i k x a : ℕ) (c : Cert) (same : c ≡ cert_at s i) where
   -- the definition's tests are these
-  brings_tests : brings s q floor l i k x a ≡ passes q floor l c k x a
+  pub brings_tests : brings s q floor l i k x a ≡ passes q floor l c k x a
   unfolding brings fires kept rules_of
   brings_tests =
       let d = cert_at s i in
       let read = eqb (steps_read floor l d 0 d.subject a + 1) (steps_at floor l k x a) in
       ap (λ b. ((b && eqb d.issuer k) && eqb d.left x) && read) (rules_live (Steps floor) s q i)
       ∙ ap (λ e. passes q floor l e k x a) (sym same)
-
-  -- it does not count
-  pub brings_not_live : live_by (Steps floor) q c ≡ false → false ≡ brings s q floor l i k x a
-  brings_not_live e = sym (brings_tests ∙ first_false _ _ _ _ e)
-
-  -- another key issued it
-  pub brings_not_issuer : (c.issuer ≡ k → ⊥) → false ≡ brings s q floor l i k x a
-  brings_not_issuer h = sym (brings_tests ∙ second_false (live_by (Steps floor) q c) _ _ _ (ne_eqb _ _ h))
-
-  -- another symbol is on its left
-  pub brings_not_left : (c.left ≡ x → ⊥) → false ≡ brings s q floor l i k x a
-  brings_not_left h = sym (brings_tests ∙ third_false (live_by (Steps floor) q c) (eqb c.issuer k) _ _ (ne_eqb _ _ h))
-
-  -- what is left is the steps
-  pub brings_steps : (r w : ℕ) → live_by (Steps floor) q c ≡ true → c.issuer ≡ k → c.left ≡ x →
-      r ≡ steps_read floor l c 0 c.subject a → w ≡ steps_at floor l k x a → eqb (r + 1) w ≡ brings s q floor l i k x a
-  brings_steps r w live issuer left read at =
-      ap₂ (λ m n. eqb (m + 1) n) read at
-      ∙ sym (brings_tests ∙ three_true _ _ _ _ live (eq-eqb _ _ issuer) (eq-eqb _ _ left))
 
 -- a certificate that passes the test brings the entry about
 pub brings_fact : (s : List ℕ) (q : Request) (floor : ℕ) (l : List ℕ) (k x a i : ℕ) {r : Bool} → i < count_of s → r ≡ brings s q floor l i k x a → r ≡ true → Bringing s q floor l k x a i

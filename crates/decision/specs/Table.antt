@@ -1,5 +1,5 @@
 -- Entries by their numbers, and the table that a lent list holds: document 01, "Entries and passes".
-use Rattle.std.specs.Prelude.{Bool, cond, ◌&&◌, List, ℕ, ◌+◌, ◌-◌, ◌*◌, ◌/◌, ◌%◌, leb, ltb, eqb, get_or}
+use Rattle.std.specs.Prelude.{◌≡◌, Bool, true, false, cond, ◌&&◌, List, ℕ, ◌+◌, ◌-◌, ◌*◌, ◌/◌, ◌%◌, ◌<◌, leb, ltb, eqb, get_or, Option, Some, None}
 use Rattle.wac.specs.Limits.{keys, identifiers, delegate, access, end_place, named_entries, entries}
 use Rattle.wac.specs.File.{listed}
 use Rattle.rewriting.specs.Passes.{Table}
@@ -20,6 +20,11 @@ number k s a = cond (ltb s identifiers) ((k * identifiers + s) * keys + a) (name
 -- the number of an entry, and 2,592 where there is no such entry
 abbrev pub entry_number : ℕ → ℕ → ℕ → ℕ
 entry_number k s a = cond (is_entry k s a) (number k s a) entries
+
+-- r is the number of an entry where there is such an entry, and none where there is none
+abbrev pub NumberOf : ℕ → ℕ → ℕ → Option ℕ → Type 0
+NumberOf k s a (Some n) = (is_entry k s a ≡ true) × (n ≡ number k s a) × (n < entries)
+NumberOf k s a None = is_entry k s a ≡ false
 
 -- the key of the entry with this number
 unfoldable pub key_of : ℕ → ℕ

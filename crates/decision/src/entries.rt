@@ -2,9 +2,8 @@
 ghost use Rattle.std.specs.Prelude.{◌≡◌, true, ◌<◌, ◌≤◌, length};
 ghost use Rattle.wac.specs.Limits.{entries};
 ghost use Rattle.decision.specs.Lens.{weighing_of};
-ghost use Rattle.decision.specs.Table.{is_entry, arrivals_of, number, entry_number, table_of};
+ghost use Rattle.decision.specs.Table.{is_entry, arrivals_of, number, NumberOf, table_of};
 
-use crate::lens;
 use crate::lens::Lens;
 use wac::Table;
 
@@ -15,23 +14,16 @@ pub struct Arrivals {
     pub past: usize,
 }
 
-// Is there such an entry?
-pub fn is_entry(key: usize, symbol: usize, place: usize) -> bool
-    ensures { result ≡ is_entry key symbol place }
-{
-    if Table::KEYS <= key {
-        return false;
-    }
-    if symbol < Table::IDENTIFIERS {
-        return place < Table::KEYS;
-    }
-    if Table::ACCESS < symbol {
-        return false;
-    }
-    place == Table::END
+// An entry: a key reads a symbol and arrives at a place.
+#[derive(Clone, Copy)]
+pub struct Entry {
+    pub key: usize,
+    pub symbol: usize,
+    pub place: usize,
 }
 
 // The places where a symbol's entries arrive.
+#[tactic(auto, unfolding(crate::specs::Table::arrivals_of))]
 pub fn arrivals_of(symbol: usize) -> Arrivals
     ensures { result ≡ arrivals_of symbol }
 {
@@ -48,36 +40,52 @@ pub fn arrivals_of(symbol: usize) -> Arrivals
     }
 }
 
-// The number of an entry.
-pub fn number_of(key: usize, symbol: usize, place: usize) -> usize
-    requires { is_entry key symbol place ≡ true }
-    ensures { (result ≡ number key symbol place) × (result < entries) }
-{
-    if symbol < Table::IDENTIFIERS {
-        (key * Table::IDENTIFIERS + symbol) * Table::KEYS + place
-    } else {
-        Table::NAMED_ENTRIES + (symbol - Table::DELEGATE) * Table::KEYS + key
+impl Entry {
+    // Is there such an entry?
+    #[tactic(auto, unfolding(crate::specs::Table::is_entry))]
+    fn is_entry(self) -> bool
+        ensures { result ≡ is_entry self.key self.symbol self.place }
+    {
+        let arrives = if self.symbol < Table::IDENTIFIERS {
+            self.place < Table::KEYS
+        } else {
+            self.symbol <= Table::ACCESS && self.place == Table::END
+        };
+        self.key < Table::KEYS && arrives
+    }
+
+    // The number of an entry.
+    #[tactic(auto, using(crate::proofs::TableLaws::name_entry, crate::proofs::TableLaws::mark_entry), unfolding(crate::specs::Table::number))]
+    pub(crate) fn number(self) -> usize
+        requires { is_entry self.key self.symbol self.place ≡ true }
+        ensures { (result ≡ number self.key self.symbol self.place) × (result < entries) }
+    {
+        if self.symbol < Table::IDENTIFIERS {
+            (self.key * Table::IDENTIFIERS + self.symbol) * Table::KEYS + self.place
+        } else {
+            Table::NAMED_ENTRIES + (self.symbol - Table::DELEGATE) * Table::KEYS + self.key
+        }
     }
 }
 
-// The number of an entry, and 2,592 where there is no such entry.
-pub fn entry_number(key: usize, symbol: usize, place: usize) -> usize
-    ensures { result ≡ entry_number key symbol place }
+// The number of an entry, where there is such an entry.
+pub fn entry_number(entry: Entry) -> Option<usize>
+    ensures { NumberOf entry.key entry.symbol entry.place result }
 {
-    if is_entry(key, symbol, place) {
-        number_of(key, symbol, place)
-    } else {
-        Table::ENTRIES
+    if !entry.is_entry() {
+        return None;
     }
+    Some(entry.number())
 }
 
 // The weight that a list gives an entry, and none where there is no such entry.
-pub fn weight_at(lens: Lens, table: &[u32], key: usize, symbol: usize, place: usize) -> u32
+#[tactic(auto, unfolding(crate::specs::Table::table_of))]
+pub(crate) fn weight_at(lens: Lens, table: &[u32], entry: Entry) -> u32
     requires { entries ≤ length table.now }
-    ensures { result ≡ table_of (weighing_of lens).none table.now key symbol place }
+    ensures { result ≡ table_of (weighing_of lens).none table.now entry.key entry.symbol entry.place }
 {
-    if !is_entry(key, symbol, place) {
-        return lens::none_of(lens);
+    match entry_number(entry) {
+        Some(number) => table[number],
+        None => lens.none(),
     }
-    table[number_of(key, symbol, place)]
 }

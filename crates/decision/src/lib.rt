@@ -12,7 +12,7 @@ mod reading;
 mod request;
 mod writing;
 
-pub use entries::entry_number;
+pub use entries::{Entry, entry_number};
 pub use question::{
     Admitted, Refused, Settling, Shown, StockList, Stocked, Verdict, admit, ask, ask_short, may,
     refusal_number, refusal_record, settle, stock,

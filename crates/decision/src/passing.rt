@@ -1,6 +1,5 @@
 // Passes over a table, certificates outside and arrivals inside, until nothing changes.
-ghost use Rattle.std.specs.Prelude.{◌≡◌, true, ◌≤◌, ◌<◌, eqb};
-ghost use lib.ListN.{length, get_or, take, drop, set};
+ghost use Rattle.std.specs.Prelude.{◌≡◌, true, ◌≤◌, ◌<◌, length, get_or, take, drop, replicate, slice_set};
 ghost use Rattle.wac.specs.Limits.{entries, keys};
 ghost use Rattle.wac.specs.Ranges.{all_below};
 ghost use Rattle.wac.specs.Record.{Lawful};
@@ -10,20 +9,26 @@ ghost use Rattle.decision.specs.Lens.{weighing_of, question_by};
 ghost use Rattle.decision.specs.Table.{is_entry, number, row_of};
 ghost use Rattle.decision.specs.Engine.{Within, Accepted, offered, Tried, Passed, SettledFrom};
 
+use crate::entries::Entry;
 use crate::lens::Lens;
 use crate::request::Request;
-use crate::{entries, lens, reading};
+use crate::{entries, reading};
 use wac::{Alone, Cert, Table};
 
 // Tries a certificate at the entry that arrives at one place.
 fn try_at(lens: Lens, old: &[u32], new: &mut [u32], cert: Cert, place: usize)
     requires { Within lens old.now × Within lens new.old × Lawful cert × (is_entry cert.issuer cert.left place ≡ true) }
-    ensures { new.new ≡ set new.old (number cert.issuer cert.left place) ((weighing_of lens).best (get_or new.old (number cert.issuer cert.left place) 0) (offered lens old.now cert place)) }
+    ensures { new.new ≡ slice_set new.old (number cert.issuer cert.left place) ((weighing_of lens).best (get_or new.old (number cert.issuer cert.left place) 0) (offered lens old.now cert place)) }
 {
-    let e = entries::number_of(cert.issuer as usize, cert.left as usize, place);
+    let entry = Entry {
+        key: cert.issuer as usize,
+        symbol: cert.left as usize,
+        place,
+    };
+    let e = entry.number();
     let read = reading::read_side(lens, old, cert, cert.subject as usize, place);
-    let offer = lens::joined(lens, lens::weight_of(lens, cert), read);
-    new[e] = lens::better(lens, new[e], offer);
+    let offer = lens.joined(lens.weight(cert), read);
+    new[e] = lens.better(new[e], offer);
 }
 
 // Tries a certificate at every entry that it can bring about.
@@ -45,34 +50,11 @@ fn pass_over(lens: Lens, file: &[u8], request: Request, count: usize, old: &[u32
     for i in 0..count {
         let found = wac::record_alone(file, i);
         match found {
-            Alone::Certificate(cert) => if lens::is_live(lens, request, cert) {
+            Alone::Certificate(cert) => if lens.is_live(request, cert) {
                 try_cert(lens, old, new, cert);
             },
             Alone::Refused(_) => {}
         }
-    }
-}
-
-// Are the first 2,592 places the same?
-fn same_table(old: &[u32], new: &[u32]) -> bool
-    requires { (entries ≤ length old.now) × (entries ≤ length new.now) }
-    ensures { result ≡ all_below entries (λ e. eqb (get_or old.now e 0) (get_or new.now e 0)) }
-{
-    for e in 0..Table::ENTRIES {
-        if old[e] != new[e] {
-            return false;
-        }
-    }
-    true
-}
-
-// Copies the first 2,592 places.
-fn copy_table(from: &[u32], to: &mut [u32])
-    requires { (entries ≤ length from.now) × (length to.old ≡ entries) }
-    ensures { to.new ≡ take entries from.now }
-{
-    for e in 0..Table::ENTRIES {
-        to[e] = from[e];
     }
 }
 
@@ -84,23 +66,22 @@ pub fn settle_by(lens: Lens, file: &[u8], request: Request, count: usize, table:
     let mut old = [0u32; Table::ENTRIES];
     let mut passes: u64 = 0;
     loop {
-        copy_table(table, &mut old);
+        old.copy_from_slice(&table[..Table::ENTRIES]);
         pass_over(lens, file, request, count, &old, table);
         passes += 1;
-        if same_table(&old, table) {
+        if old[..] == table[..Table::ENTRIES] {
             return passes;
         }
     }
 }
 
 // Fills the first 2,592 places with one weight.
+#[tactic(auto, using(std::proofs::lemmas::List::take_at, std::proofs::lemmas::List::drop_at))]
 pub fn fill(table: &mut [u32], weight: u32)
     requires { entries ≤ length table.old }
-    ensures { (take entries table.new ≡ lib.ListN.replicate entries weight) × (drop entries table.new ≡ drop entries table.old) }
+    ensures { (take entries table.new ≡ replicate entries weight) × (drop entries table.new ≡ drop entries table.old) }
 {
-    for e in 0..Table::ENTRIES {
-        table[e] = weight;
-    }
+    table[..Table::ENTRIES].fill(weight);
 }
 
 // The table at the start: the asker's two mark entries have the whole, the others none.
@@ -108,8 +89,17 @@ pub fn start_by(lens: Lens, asker: usize, table: &mut [u32])
     requires { (asker < keys) × (entries ≤ length table.old) }
     ensures { (take entries table.new ≡ row_of (start (question_by lens asker))) × (drop entries table.new ≡ drop entries table.old) }
 {
-    fill(table, lens::none_of(lens));
-    let whole = lens::whole_of(lens);
-    table[entries::number_of(asker, Table::DELEGATE, Table::END)] = whole;
-    table[entries::number_of(asker, Table::ACCESS, Table::END)] = whole;
+    fill(table, lens.none());
+    let whole = lens.whole();
+    let delegate = Entry {
+        key: asker,
+        symbol: Table::DELEGATE,
+        place: Table::END,
+    };
+    let access = Entry {
+        symbol: Table::ACCESS,
+        ..delegate
+    };
+    table[delegate.number()] = whole;
+    table[access.number()] = whole;
 }

@@ -20,6 +20,7 @@ ghost use Rattle.decision.specs.Question.{
   refusal_record,
 };
 
+use crate::entries::Entry;
 use crate::lens::Lens;
 use crate::request::Request;
 use crate::{entries, passing, writing};
@@ -107,25 +108,18 @@ fn judge_steps(
     ensures { Counted file.now request minute passes result steps.old steps.new chain.old chain.new }
 {
     let lens = Lens::Steps(minute);
-    let owner = request.owner as usize;
+    let entry = Entry {
+        key: request.owner as usize,
+        symbol: Table::DELEGATE,
+        place: Table::END,
+    };
     passing::start_by(lens, request.asker as usize, steps);
     passing::settle_by(lens, file, request, count, steps);
-    let fewest = entries::weight_at(lens, steps, owner, Table::DELEGATE, Table::END);
+    let fewest = entries::weight_at(lens, steps, entry);
     if (Table::CHAIN_PLACES as u32) < fewest {
         return Verdict::GrantedLong(minute, passes);
     }
-    writing::expand_entry(
-        file,
-        request,
-        minute,
-        count,
-        steps,
-        chain,
-        0,
-        owner,
-        Table::DELEGATE,
-        Table::END,
-    );
+    writing::expand_entry(file, request, minute, count, steps, chain, 0, entry);
     Verdict::Granted(minute, fewest, passes)
 }
 
@@ -144,13 +138,12 @@ fn judge(
     let lens = Lens::Minutes;
     passing::start_by(lens, request.asker as usize, minutes);
     let passes = passing::settle_by(lens, file, request, count, minutes);
-    let minute = entries::weight_at(
-        lens,
-        minutes,
-        request.owner as usize,
-        Table::DELEGATE,
-        Table::END,
-    );
+    let entry = Entry {
+        key: request.owner as usize,
+        symbol: Table::DELEGATE,
+        place: Table::END,
+    };
+    let minute = entries::weight_at(lens, minutes, entry);
     if minute == 0 {
         passing::fill(steps, Table::CHAIN_PLACES as u32 + 1);
         return Verdict::NoChain(passes);

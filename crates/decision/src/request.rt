@@ -14,42 +14,35 @@ pub struct Request {
 }
 
 // Are all of the rights asked among those held?
+#[tactic(auto, unfolding(crate::specs::Usable::includes))]
 fn all_held(held: u8, asked: u8) -> bool
     ensures { result ≡ includes held asked }
 {
-    if held % 2 < asked % 2 {
-        return false;
-    }
-    if held / 2 % 2 < asked / 2 % 2 {
-        return false;
-    }
-    if held / 4 % 2 < asked / 4 % 2 {
-        return false;
-    }
-    asked / 8 % 2 <= held / 8 % 2
+    asked % 2 <= held % 2
+        && asked / 2 % 2 <= held / 2 % 2
+        && asked / 4 % 2 <= held / 4 % 2
+        && asked / 8 % 2 <= held / 8 % 2
 }
 
 // Has the certificate begun, and not ended, at this minute?
+#[tactic(auto, unfolding(crate::specs::Usable::in_force))]
 fn in_force(cert: Cert, at: u32) -> bool
     ensures { result ≡ in_force at cert }
 {
-    if cert.not_before <= at {
-        at <= cert.not_after
-    } else {
-        false
-    }
+    cert.not_before <= at && at <= cert.not_after
 }
 
-// Is the certificate usable? A name certificate needs only the dates.
-pub fn is_usable(request: Request, cert: Cert) -> bool
-    ensures { result ≡ usable request cert }
-{
-    if !in_force(cert, request.at) {
-        return false;
-    }
-    if cert.kind == Table::AUTHORIZATION as u8 {
-        all_held(cert.rights, request.rights)
-    } else {
-        true
+impl Request {
+    // Is the certificate usable? A name certificate needs only the dates.
+    #[tactic(auto, unfolding(crate::specs::Usable::usable))]
+    pub(crate) fn is_usable(self, cert: Cert) -> bool
+        ensures { result ≡ usable self cert }
+    {
+        let rights = if cert.kind as usize == Table::AUTHORIZATION {
+            all_held(cert.rights, self.rights)
+        } else {
+            true
+        };
+        in_force(cert, self.at) && rights
     }
 }

@@ -1,7 +1,6 @@
 // The chain written out entry by entry: each entry's own certificate first, and then the entries that
 // its subject reads.
-ghost use Rattle.std.specs.Prelude.{◌≡◌, true, ℕ, suc, ◌+◌, ◌≤◌, ◌<◌};
-ghost use lib.ListN.{length, drop};
+ghost use Rattle.std.specs.Prelude.{◌≡◌, ◌+◌, ◌≤◌, ◌<◌, length, slice_index};
 ghost use Rattle.wac.specs.Limits.{chain_places, end_place};
 ghost use Rattle.wac.specs.File.{count_of, cert_at};
 ghost use Rattle.decision.specs.Usable.{symbols_of};
@@ -18,9 +17,10 @@ ghost use Rattle.decision.specs.Writing.{
   ReadBy,
 };
 
+use crate::entries::Entry;
 use crate::lens::Lens;
 use crate::request::Request;
-use crate::{entries, lens, reading};
+use crate::{entries, reading};
 use wac::{Alone, Cert, Table};
 
 // Does certificate i bring the entry about by one step more than its subject reads?
@@ -30,29 +30,21 @@ fn brings_by(
     floor: u32,
     table: &[u32],
     i: usize,
-    key: usize,
-    symbol: usize,
-    place: usize,
+    entry: Entry,
 ) -> bool
     requires { StepsTable file.now request floor table.now × (i < count_of file.now) }
-    ensures { result ≡ brings file.now request floor table.now i key symbol place }
+    ensures { result ≡ brings file.now request floor table.now i entry.key entry.symbol entry.place }
 {
     let lens = Lens::Steps(floor);
     let found = wac::record_alone(file, i);
     let Alone::Certificate(cert) = found else {
         return false;
     };
-    if !lens::is_live(lens, request, cert) {
-        return false;
-    }
-    if cert.issuer as usize != key {
-        return false;
-    }
-    if cert.left as usize != symbol {
-        return false;
-    }
-    let read = reading::read_from(lens, table, cert, 0, cert.subject as usize, place);
-    read + 1 == entries::weight_at(lens, table, key, symbol, place)
+    lens.is_live(request, cert)
+        && cert.issuer as usize == entry.key
+        && cert.left as usize == entry.symbol
+        && reading::read_from(lens, table, cert, 0, cert.subject as usize, entry.place) + 1
+            == entries::weight_at(lens, table, entry)
 }
 
 // The lowest certificate that brings an entry about by its steps.
@@ -62,19 +54,15 @@ fn find_cert(
     floor: u32,
     count: usize,
     table: &[u32],
-    key: usize,
-    symbol: usize,
-    place: usize,
+    entry: Entry,
 ) -> usize
-    requires { StepsTable file.now request floor table.now × (count ≡ count_of file.now) × (steps_at floor table.now key symbol place ≤ chain_places) × (steps_at floor table.now key symbol place ≡ 0 → ⊥) }
-    ensures { Bringing file.now request floor table.now key symbol place result }
+    requires { StepsTable file.now request floor table.now × (count ≡ count_of file.now) × (steps_at floor table.now entry.key entry.symbol entry.place ≤ chain_places) × (steps_at floor table.now entry.key entry.symbol entry.place ≡ 0 → ⊥) }
+    ensures { Bringing file.now request floor table.now entry.key entry.symbol entry.place result }
 {
-    let mut i = 0;
-    while i < count {
-        if brings_by(file, request, floor, table, i, key, symbol, place) {
+    for i in 0..count {
+        if brings_by(file, request, floor, table, i, entry) {
             return i;
         }
-        i += 1;
     }
     0
 }
@@ -82,21 +70,24 @@ fn find_cert(
 // The lowest place to which symbol j goes in a best reading of a certificate's right side.
 fn find_place(floor: u32, table: &[u32], cert: Cert, j: usize, from: usize, to: usize) -> usize
     requires { Onward floor table.now cert j from to × (j < length (symbols_of cert)) }
-    ensures { (result ≤ end_place) × (steps_read floor table.now cert j from to ≡ steps_at floor table.now from (lib.ListN.get_or (symbols_of cert) j 0) result + steps_read floor table.now cert (j + 1) result to) }
+    ensures { (result ≤ end_place) × (steps_read floor table.now cert j from to ≡ steps_at floor table.now from (slice_index (symbols_of cert) j) result + steps_read floor table.now cert (j + 1) result to) }
 {
     let lens = Lens::Steps(floor);
     let symbol = reading::symbol_at(cert, j);
     let whole = reading::read_from(lens, table, cert, j, from, to);
-    let mut place = 0;
-    while place < Table::END {
-        let first = entries::weight_at(lens, table, from, symbol, place);
+    for place in 0..Table::END {
+        let entry = Entry {
+            key: from,
+            symbol,
+            place,
+        };
+        let first = entries::weight_at(lens, table, entry);
         let rest = reading::read_from(lens, table, cert, j + 1, place, to);
         if first + rest == whole {
             return place;
         }
-        place += 1;
     }
-    place
+    Table::END
 }
 
 // Writes an entry from `at` on, and gives the next place.
@@ -109,18 +100,16 @@ pub fn expand_entry(
     table: &[u32],
     chain: &mut [u8],
     at: usize,
-    key: usize,
-    symbol: usize,
-    place: usize,
+    entry: Entry,
 ) -> usize
-    requires { StepsTable file.now request floor table.now × (count ≡ count_of file.now) × (steps_at floor table.now key symbol place ≤ chain_places) × (at + steps_at floor table.now key symbol place ≤ length chain.old) }
-    ensures { Wrote (Entered file.now request floor key symbol place) at (steps_at floor table.now key symbol place) chain.old chain.new result }
+    requires { StepsTable file.now request floor table.now × (count ≡ count_of file.now) × (steps_at floor table.now entry.key entry.symbol entry.place ≤ chain_places) × (at + steps_at floor table.now entry.key entry.symbol entry.place ≤ length chain.old) }
+    ensures { Wrote (Entered file.now request floor entry.key entry.symbol entry.place) at (steps_at floor table.now entry.key entry.symbol entry.place) chain.old chain.new result }
 {
-    let steps = entries::weight_at(Lens::Steps(floor), table, key, symbol, place);
+    let steps = entries::weight_at(Lens::Steps(floor), table, entry);
     if steps == 0 {
         return at;
     }
-    let i = find_cert(file, request, floor, count, table, key, symbol, place);
+    let i = find_cert(file, request, floor, count, table, entry);
     let found = wac::record_alone(file, i);
     let Alone::Certificate(cert) = found else {
         return at;
@@ -135,7 +124,7 @@ pub fn expand_entry(
         chain,
         at + 1,
         cert,
-        place,
+        entry.place,
     )
 }
 
@@ -158,15 +147,16 @@ fn expand_subject(
     let symbols = reading::symbols_in(cert);
     let mut next = at;
     let mut from = cert.subject as usize;
-    let mut j = 0;
-    while j < symbols {
+    for j in 0..symbols {
         let symbol = reading::symbol_at(cert, j);
         let place = find_place(floor, table, cert, j, from, to);
-        next = expand_entry(
-            file, request, floor, count, table, chain, next, from, symbol, place,
-        );
+        let entry = Entry {
+            key: from,
+            symbol,
+            place,
+        };
+        next = expand_entry(file, request, floor, count, table, chain, next, entry);
         from = place;
-        j += 1;
     }
     next
 }

@@ -1,30 +1,12 @@
-use mathlib.Core.Path.{◌≡◌, refl, ap, ◌∙◌}
-use native.Mathlib.Omega.{arith}
-use borrow.Author.Fill.{fill_more}
-use borrow.Author.Rules.{rules}
-use lib.ListN.{length-set, take, drop, set, replicate, length-replicate}
-use lib.Seq.{take_at, drop_at}
-use Rattle.wac.specs.Limits.{entries}
+-- `fill` meets its contract: the part that is filled, and what is beyond it.
+use Rattle.std.proofs.Common.{◌≡◌, ◌∙◌, length, drop, replicate, arith, ap}
+use Rattle.std.proofs.lemmas.List.{take_at, drop_at, length-take-le}
 use Rattle.decision.proofs.passing.fill.Goals as goal
-
-pub loop-e-init : goal.loop-e-init
-loop-e-init c = (search rules, refl, refl)
-
-pub loop-e-preserved : goal.loop-e-preserved
-loop-e-preserved c =
-    let h = c.loop-e in
-    let a = c.args in
-    (omega arith, simp length-set h.invariant.1, ap (λ l. set l h.e a.weight) h.invariant.2 ∙ fill_more h.e a.weight a.table.now (omega arith))
-
-pub shape_of-table : goal.shape_of-table
-shape_of-table c = c.loop-e.invariant.1
 
 pub returns : goal.returns
 returns c =
-    let h = c.loop-e in
-    let a = c.args in
-    let e : h.e ≡ entries = omega arith in
-    let filled = rw e at h.invariant.2 in (
-      ap (take entries) filled ∙ take_at (replicate entries a.weight) (drop entries a.table.now) entries (length-replicate entries a.weight),
-      ap (drop entries) filled ∙ drop_at (replicate entries a.weight) (drop entries a.table.now) entries (length-replicate entries a.weight),
-    )
+    let t = c.args.table.now in
+    let f = c.fill in
+    let long = length-take-le 2592 t c.requires in
+    let filled : f.new.self ≡ replicate 2592 c.args.weight = f.ensures.after (λ y same. same) ∙ ap (λ n. replicate n c.args.weight) long in
+    (take_at f.new.self (drop 2592 t) 2592 (f.ensures.len ∙ long) ∙ filled, drop_at f.new.self (drop 2592 t) 2592 (f.ensures.len ∙ long))

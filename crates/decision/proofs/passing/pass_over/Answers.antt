@@ -9,11 +9,11 @@ use Rattle.decision.proofs.passing.pass_over.Goals as goal
 use Rattle.decision.proofs.passing.pass_over.Goals.{in-Certificate+then-is_live, in-Certificate+else-is_live, in-Refused}
 
 pub loop-i-init : goal.loop-i-init
-loop-i-init c = let p = c.requires in (search rules, passing_none _ _ _ _ _ p.4 p.5)
+loop-i-init c = let p = c.requires in passing_none _ _ _ _ _ p.4 p.5
 
 pub try_cert-requires : goal.try_cert-requires
 try_cert-requires c =
-    (c.requires.3, c.loop-i.invariant.1.within, fetched_lawful c.record_alone-found.ensures c.in-Certificate.is)
+    (c.requires.3, c.loop-i.invariant.within, fetched_lawful c.record_alone-found.ensures c.in-Certificate.is)
 
 pub loop-i-preserved : goal.loop-i-preserved
 loop-i-preserved c =
@@ -21,23 +21,21 @@ loop-i-preserved c =
     let p = c.requires in
     let h = c.loop-i in
     let from = c.record_alone-found.ensures in
-    let below : h.i < count_of a.file.now = omega arith in (
-      omega arith,
-      elim c.match-found.branch [
-        | in-Certificate+then-is_live w ↦
-            subst (λ l. Passing a.lens a.file.now a.request a.old.now a.new.now l (h.i + 1)) (sym w.new-is)
-            (passing_live h.invariant.1 (fetched_same from p.0 below w.in-Certificate.is) (sym w.is_live.ensures ∙ w.if-is_live.true) p.3 (fetched_lawful from w.in-Certificate.is) w.try_cert.ensures)
-        | in-Certificate+else-is_live w ↦
-            subst (λ l. Passing a.lens a.file.now a.request a.old.now a.new.now l (h.i + 1)) (sym w.new-is)
-            (passing_dead h.invariant.1 (fetched_same from p.0 below w.in-Certificate.is) (sym w.is_live.ensures ∙ w.if-is_live.false))
-        | in-Refused w ↦ absurd (fetched_refused from p.0 below w.in-Refused.is)
-      ],
-    )
+    let below : h.i < count_of a.file.now = omega arith in
+    elim c.match-found.branch [
+      | in-Certificate+then-is_live w ↦
+          subst (λ l. Passing a.lens a.file.now a.request a.old.now a.new.now l (h.i + 1)) (sym w.new-is)
+          (passing_live h.invariant (fetched_same from p.0 below w.in-Certificate.is) (sym w.is_live.ensures ∙ w.if-is_live.true) p.3 (fetched_lawful from w.in-Certificate.is) w.try_cert.ensures)
+      | in-Certificate+else-is_live w ↦
+          subst (λ l. Passing a.lens a.file.now a.request a.old.now a.new.now l (h.i + 1)) (sym w.new-is)
+          (passing_dead h.invariant (fetched_same from p.0 below w.in-Certificate.is) (sym w.is_live.ensures ∙ w.if-is_live.false))
+      | in-Refused w ↦ absurd (fetched_refused from p.0 below w.in-Refused.is)
+    ]
 
 pub shape_of-new : goal.shape_of-new
-shape_of-new c = c.loop-i.invariant.1.long
+shape_of-new c = c.loop-i.invariant.long
 
 pub returns : goal.returns
 returns c =
     let p = c.requires in
-    passed c.loop-i.invariant.1 (omega arith)
+    passed c.loop-i.invariant (omega arith)

@@ -4,7 +4,4 @@ use Rattle.decision.proofs.PassingLaws.{Passing}
 use Rattle.decision.proofs.passing.pass_over.Given as goal
 
 abbrev pub invariant-loop-i : goal.invariant-loop-i
-invariant-loop-i l = (l.i ≤ l.count) × Passing l.lens l.file l.request l.old l.initial.new l.new l.i
-
-abbrev pub decreases-loop-i : goal.decreases-loop-i
-decreases-loop-i l = l.count - l.i
+invariant-loop-i l = Passing l.lens l.file l.request l.old l.initial.new l.new l.i

@@ -1,60 +1,50 @@
-use mathlib.Core.Path.{sym, subst, ◌∙◌}
-use Prim.Native.Nat.{ℕ}
-use native.Mathlib.Omega.{arith}
-use lib.ListN.{length-replicate}
-use Rattle.decision.specs.Engine.{Within}
+use Rattle.std.proofs.Common.{◌≡◌, ◌∙◌, sym, subst, ℕ, take, arith, true≢false}
+use Rattle.std.proofs.lemmas.Bool.Decides.{Decides-eqb}
+use Rattle.std.proofs.lemmas.List.{length-take-le}
+use Rattle.std.proofs.lemmas.Slice.Eq.{slice_eq-Decides}
 use Rattle.wac.specs.Bytes.{AreBytes}
 use Rattle.wac.specs.Limits.{entries}
+use Rattle.decision.specs.Engine.{Within}
 use Rattle.decision.proofs.RulesLaws.{rules_lawful}
 use Rattle.decision.proofs.SettlingLaws.{going_none, going_few, going_less, going_more, settled, within_take}
 use Rattle.decision.proofs.passing.settle_by.Goals as goal
+use Rattle.decision.proofs.passing.settle_by.Goals.{Else-eq}
 
 pub loop-lens-init : goal.loop-lens-init
 loop-lens-init c =
     let a = c.args in
     let p = c.requires in
     let bytes : AreBytes a.file.now = λ i. (c.type_inv.file i).fits in
-    (length-replicate {A = ℕ} entries 0, going_none _ _ _ _ (rules_lawful a.lens a.file.now a.request bytes p.0 p.2) p.3)
-
-pub copy_table-requires : goal.copy_table-requires
-copy_table-requires c = (c.loop-lens.invariant.1.within.long, c.loop-lens.invariant.0)
+    going_none _ _ _ _ (rules_lawful a.lens a.file.now a.request bytes p.0 p.2) p.3
 
 pub pass_over-requires : goal.pass_over-requires
 pass_over-requires c =
     let a = c.args in
     let p = c.requires in
     let h = c.loop-lens in
-    let y = c.copy_table in
-    let within = h.invariant.1.within in
-    (p.0, p.1, omega (arith, y.auto.to, h.invariant.0), subst (Within a.lens) (sym y.ensures) (within_take a.lens h.table within), within, sym y.ensures)
+    let copied = c.copy_from_slice.ensures in
+    let within = h.invariant.within in
+    (p.0, p.1, copied.len ∙ h.array_long, subst (Within a.lens) (sym copied.after) (within_take a.lens h.table within), within, sym copied.after)
 
 pub overflow_add-passes : goal.overflow_add-passes
-overflow_add-passes c = omega (arith, going_few c.loop-lens.invariant.1)
+overflow_add-passes c = omega (arith, going_few c.loop-lens.invariant)
 
-pub same_table-requires : goal.same_table-requires
-same_table-requires c =
-    let h = c.loop-lens in
-    let y = c.copy_table in
-    let r = c.pass_over in
-    (omega (arith, y.auto.to, h.invariant.0), omega (arith, r.ensures.long, h.invariant.1.within.long))
+pub slice_bounds-eq-end-in-loop-lens-2 : goal.slice_bounds-eq-end-in-loop-lens-2
+slice_bounds-eq-end-in-loop-lens-2 c = sym (length-take-le 2592 c.pass_over.new.new (omega (arith, c.pass_over.ensures.long, c.loop-lens.invariant.within.long)))
 
-pub shape_of-table-then-same_table : goal.shape_of-table-then-same_table
-shape_of-table-then-same_table c = c.pass_over.ensures.long ∙ c.loop-lens.invariant.1.long
+pub returns-then-eq : goal.returns-then-eq
+returns-then-eq c =
+    let same = slice_eq-Decides Decides-eqb _ _ _ c.eq.ensures in
+    settled c.loop-lens.invariant c.copy_from_slice.ensures.after c.pass_over.ensures (same.0 c.if-eq.true)
 
-pub returns-then-same_table : goal.returns-then-same_table
-returns-then-same_table c =
-    let h = c.loop-lens in
-    settled h.invariant.1 c.copy_table.ensures c.pass_over.ensures c.same_table.ensures c.if-same_table.true
+-- the pass changed something
+moved : (c : Else-eq) → c.copy_from_slice.new.self ≡ take entries c.pass_over.new.new → ⊥
+moved c e =
+    let same = slice_eq-Decides Decides-eqb _ _ _ c.eq.ensures in
+    true≢false (sym (same.1 e) ∙ c.if-eq.false)
 
 pub loop-lens-smaller : goal.loop-lens-smaller
-loop-lens-smaller c =
-    let h = c.loop-lens in
-    going_less h.invariant.1 c.copy_table.ensures c.pass_over.ensures c.same_table.ensures c.if-same_table.false
+loop-lens-smaller c = going_less c.loop-lens.invariant c.copy_from_slice.ensures.after c.pass_over.ensures (moved c)
 
 pub loop-lens-preserved : goal.loop-lens-preserved
-loop-lens-preserved c =
-    let h = c.loop-lens in
-    let y = c.copy_table in (
-      omega (arith, y.auto.to, h.invariant.0),
-      going_more h.invariant.1 y.ensures c.pass_over.ensures c.same_table.ensures c.if-same_table.false,
-    )
+loop-lens-preserved c = going_more c.loop-lens.invariant c.copy_from_slice.ensures.after c.pass_over.ensures (moved c)

@@ -10,7 +10,7 @@ use Rattle.rewriting.proofs.Settling.{ranks}
 use Rattle.decision.proofs.passing.settle_by.Given as goal
 
 abbrev pub invariant-loop-lens : goal.invariant-loop-lens
-invariant-loop-lens l = (length l.old ≡ entries) × Going l.lens l.file l.request l.initial.table l.table l.passes
+invariant-loop-lens l = Going l.lens l.file l.request l.initial.table l.table l.passes
 
 abbrev pub decreases-loop-lens : goal.decreases-loop-lens
 decreases-loop-lens l = ranks (question_by l.lens l.request.asker) (held l.lens l.initial.table) - l.passes

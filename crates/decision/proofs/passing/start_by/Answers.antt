@@ -6,21 +6,21 @@ use lib.ListN.{length-set}
 use Rattle.decision.proofs.PassingLaws.{asker_entry, started}
 use Rattle.decision.proofs.passing.start_by.Goals as goal
 
-pub number_of-requires : goal.number_of-requires
-number_of-requires c = asker_entry _ 10 c.requires.0 (inl refl)
+pub number-requires : goal.number-requires
+number-requires c = asker_entry _ 10 c.requires.0 (inl refl)
 
-pub number_of-requires-2 : goal.number_of-requires-2
-number_of-requires-2 c = asker_entry _ 11 c.requires.0 (inr refl)
+pub number-requires-2 : goal.number-requires-2
+number-requires-2 c = asker_entry _ 11 c.requires.0 (inr refl)
 
-pub bounds-table-number_of-2 : goal.bounds-table-number_of-2
-bounds-table-number_of-2 c = simp length-set (omega (arith, c.fill.auto.table, c.requires.1, c.number_of-2.ensures.1))
+pub bounds-table-number-2 : goal.bounds-table-number-2
+bounds-table-number-2 c = simp length-set (omega (arith, c.fill.auto.table, c.requires.1, c.number-2.ensures.1))
 
 pub returns : goal.returns
 returns c =
     let a = c.args in
     let f = c.fill in
-    let none = c.none_of.ensures in
+    let none = c.none.ensures in
     let both = started a.lens a.asker c.requires.0 f.new.table (omega (arith, f.auto.table, c.requires.1)) (rw none at f.ensures.0)
-    c.number_of.result c.number_of-2.result c.whole_of-whole.result
-    c.number_of.ensures.0 c.number_of-2.ensures.0 c.whole_of-whole.ensures in
+    c.number.result c.number-2.result c.whole-whole.result
+    c.number.ensures.0 c.number-2.ensures.0 c.whole-whole.ensures in
     (both.0, both.1 ∙ f.ensures.1)

@@ -13,16 +13,16 @@ pub joined-offer-requires : goal.joined-offer-requires
 joined-offer-requires c =
     let a = c.args in
     let p = c.requires in (
-      rw c.weight_of.ensures (weight_fits a.lens a.cert p.2),
+      rw c.weight.ensures (weight_fits a.lens a.cert p.2),
       rw c.read_side-read.ensures (reading_fits (question_by a.lens 0) (held a.lens a.old.now) (list_held a.lens 0 a.old.now p.0) _ _ _),
     )
 
 pub returns : goal.returns
 returns c =
     let a = c.args in
-    let at = c.number_of-e in
+    let at = c.number-e in
     let read = c.read_side-read in
-    let weight = c.weight_of in
+    let weight = c.weight in
     let offer = c.joined-offer in
     stored (weighing_of a.lens) a.new.now at.result (number a.cert.issuer a.cert.left a.place) c.better.result
     weight.result (weight_by a.lens a.cert)

@@ -7,6 +7,3 @@ use Rattle.decision.proofs.passing.try_cert.Given as goal
 
 abbrev pub invariant-loop-place : goal.invariant-loop-place
 invariant-loop-place l = (l.place-end ≡ (arrivals_of l.cert.left).past) × ((arrivals_of l.cert.left).first ≤ l.place) × Trying l.lens l.old l.cert l.initial.new l.new l.place
-
-abbrev pub decreases-loop-place : goal.decreases-loop-place
-decreases-loop-place l = l.place-end - l.place

@@ -16,7 +16,7 @@ use Rattle.decision.proofs.reading.+read_from_search_from.Goals as goal
 pub read_from-returns-then-from-to : goal.read_from-returns-then-from-to
 read_from-returns-then-from-to t c =
     let x = c.args in
-    c.whole_of.ensures
+    c.whole.ensures
     ∙ sym
     (read_past (question_by x.lens 0) (held x.lens x.old.now) (list_held x.lens 0 x.old.now c.requires.0) (symbols_of x.cert) x.j x.from x.to (rw c.symbols_in-symbols.ensures.0 at c.if-symbols-j.true)
     ∙ when_true _ _ _ (eq-eqb _ _ c.if-from-to.true))
@@ -24,7 +24,7 @@ read_from-returns-then-from-to t c =
 pub read_from-returns-then-symbols-j : goal.read_from-returns-then-symbols-j
 read_from-returns-then-symbols-j t c =
     let x = c.args in
-    c.none_of.ensures
+    c.none.ensures
     ∙ sym
     (read_past (question_by x.lens 0) (held x.lens x.old.now) (list_held x.lens 0 x.old.now c.requires.0) (symbols_of x.cert) x.j x.from x.to (rw c.symbols_in-symbols.ensures.0 at c.if-symbols-j.true)
     ∙ when_false _ _ _ (ne_eqb _ _ c.if-from-to.false))
@@ -38,7 +38,7 @@ read_from-returns-then-symbols-j-2 t c =
 
 pub search_from-loop-place-init : goal.search_from-loop-place-init
 unfolding up_to
-search_from-loop-place-init t c = (omega arith, c.none_of-none.ensures)
+search_from-loop-place-init t c = c.none-none.ensures
 
 pub search_from-overflow_add-j : goal.search_from-overflow_add-j
 search_from-overflow_add-j t c = omega (arith, symbols_few c.args.cert)
@@ -56,22 +56,20 @@ search_from-loop-place-preserved t c =
     let fits = through_fits (question_by x.lens 0) (held x.lens x.old.now) fine (symbols_of x.cert) x.j x.from x.to in
     let loop = c.loop-place in
     let first : c.weight_at-first.result ≡ held x.lens x.old.now x.from (get_or (symbols_of x.cert) x.j 0) loop.place =
-    c.weight_at-first.ensures ∙ ap (λ s. held x.lens x.old.now x.from s loop.place) c.symbol_at-symbol.ensures in (
-      omega arith,
-      elim c.if-first-none.branch [
-        | search_from-then-first-none w ↦
-            w.best-is
-            ∙ w.better-best.ensures
-            ∙ ap₂ (weighing_of x.lens).best loop.invariant.1 (w.joined.ensures ∙ ap₂ (weighing_of x.lens).along first w.read_from-rest.ensures)
-            ∙ sym (up_to_more (weighing_of x.lens) f fits loop.place)
-        | search_from-else-first-none w ↦
-            w.best-is
-            ∙ loop.invariant.1
-            ∙ sym
-            (up_to_same (weighing_of x.lens) f fits loop.place
-            (through_lost _ _ fine (symbols_of x.cert) x.j x.from x.to loop.place (sym first ∙ w.if-first-none.false ∙ c.none_of-none.ensures)))
-      ],
-    )
+    c.weight_at-first.ensures ∙ ap (λ s. held x.lens x.old.now x.from s loop.place) c.symbol_at-symbol.ensures in
+    elim c.if-first-none.branch [
+      | search_from-then-first-none w ↦
+          w.best-is
+          ∙ w.better-best.ensures
+          ∙ ap₂ (weighing_of x.lens).best loop.invariant (w.joined.ensures ∙ ap₂ (weighing_of x.lens).along first w.read_from-rest.ensures)
+          ∙ sym (up_to_more (weighing_of x.lens) f fits loop.place)
+      | search_from-else-first-none w ↦
+          w.best-is
+          ∙ loop.invariant
+          ∙ sym
+          (up_to_same (weighing_of x.lens) f fits loop.place
+          (through_lost _ _ fine (symbols_of x.cert) x.j x.from x.to loop.place (sym first ∙ w.if-first-none.false ∙ c.none-none.ensures)))
+    ]
 
 pub search_from-returns : goal.search_from-returns
 search_from-returns t c =
@@ -79,7 +77,7 @@ search_from-returns t c =
     let fine = list_held x.lens 0 x.old.now c.requires.0 in
     let fits = through_fits (question_by x.lens 0) (held x.lens x.old.now) fine (symbols_of x.cert) x.j x.from x.to in
     let end : c.loop-place.place ≡ 17 = omega arith in
-    c.loop-place.invariant.1
+    c.loop-place.invariant
     ∙ ap (λ n. up_to (weighing_of x.lens) n (through (question_by x.lens 0) (held x.lens x.old.now) (symbols_of x.cert) x.j x.from x.to)) end
     ∙ up_to_over (weighing_of x.lens) _ fits 16
     ∙ sym (read_symbol (question_by x.lens 0) (held x.lens x.old.now) fine (symbols_of x.cert) x.j x.from x.to (omega arith))

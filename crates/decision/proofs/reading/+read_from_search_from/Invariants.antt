@@ -17,7 +17,4 @@ decreases-search_from l = 2 * (length (symbols_of l.cert) - l.j)
 
 abbrev pub invariant-search_from-loop-place : goal.invariant-search_from-loop-place
 invariant-search_from-loop-place l =
-    (l.place ≤ 17) × (l.best ≡ up_to (weighing_of l.lens) l.place (through (question_by l.lens 0) (held l.lens l.old) (symbols_of l.cert) l.j l.from l.to))
-
-abbrev pub decreases-search_from-loop-place : goal.decreases-search_from-loop-place
-decreases-search_from-loop-place l = 17 - l.place
+    l.best ≡ up_to (weighing_of l.lens) l.place (through (question_by l.lens 0) (held l.lens l.old) (symbols_of l.cert) l.j l.from l.to)

@@ -6,7 +6,7 @@ use Rattle.decision.proofs.WritingLaws.{Part}
 use Rattle.decision.proofs.writing.+expand_entry_expand_subject.Given as goal
 
 abbrev pub decreases-expand_entry : goal.decreases-expand_entry
-decreases-expand_entry l = 2 * steps_at l.floor l.table.now l.key l.symbol l.place
+decreases-expand_entry l = 2 * steps_at l.floor l.table.now l.entry.key l.entry.symbol l.entry.place
 
 abbrev pub decreases-expand_subject : goal.decreases-expand_subject
 decreases-expand_subject l = 2 * steps_read l.floor l.table.now l.cert 0 l.cert.subject l.to + 1
@@ -14,6 +14,3 @@ decreases-expand_subject l = 2 * steps_read l.floor l.table.now l.cert 0 l.cert.
 abbrev pub invariant-expand_subject-loop-j : goal.invariant-expand_subject-loop-j
 invariant-expand_subject-loop-j l =
     Part l.file l.request l.floor l.table l.cert l.to l.at l.initial.chain l.chain l.next l.from l.j
-
-abbrev pub decreases-expand_subject-loop-j : goal.decreases-expand_subject-loop-j
-decreases-expand_subject-loop-j l = l.symbols - l.j

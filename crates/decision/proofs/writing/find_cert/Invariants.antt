@@ -6,7 +6,4 @@ use Rattle.decision.specs.Writing.{brings}
 use Rattle.decision.proofs.writing.find_cert.Given as goal
 
 abbrev pub invariant-loop-i : goal.invariant-loop-i
-invariant-loop-i l = (l.i ≤ l.count) × ((k : ℕ) → k < l.i → brings l.file l.request l.floor l.table k l.key l.symbol l.place ≡ false)
-
-abbrev pub decreases-loop-i : goal.decreases-loop-i
-decreases-loop-i l = l.count - l.i
+invariant-loop-i l = (k : ℕ) → k < l.i → brings l.file l.request l.floor l.table k l.entry.key l.entry.symbol l.entry.place ≡ false

@@ -1,3 +1,4 @@
+use mathlib.Core.Path.{◌≡◌}
 use Prim.Native.Nat.{◌+◌}
 use native.Mathlib.Omega.{arith}
 use borrow.Author.Count.{below_none, below_more}
@@ -14,7 +15,7 @@ read_from-whole-requires c =
     (onward.within, onward.subject, onward.symbols)
 
 pub loop-place-init : goal.loop-place-init
-loop-place-init c = (omega arith, below_none _)
+loop-place-init c = below_none _
 
 pub weight_at-first-requires : goal.weight_at-first-requires
 weight_at-first-requires c = c.requires.0.within.long
@@ -58,10 +59,10 @@ loop-place-preserved c =
     c.weight_at-first.ensures
     c.read_from-rest.ensures
     c.if-first-rest.false in
-    (omega arith, below_more _ _ c.loop-place.invariant.1 other)
+    below_more _ _ c.loop-place.invariant other
 
 pub returns : goal.returns
 returns c =
     let pre = c.requires in
-    let inv = c.loop-place.invariant in
-    (inv.0, place_last c.args.floor _ _ _ _ _ _ pre.1 pre.0.short c.loop-place-test.false inv.0 inv.1)
+    let end : c.loop-place.place ≡ 16 = omega arith in
+    (omega arith, place_last c.args.floor _ _ _ _ _ 16 pre.1 pre.0.short (omega arith) (omega arith) (rw end at c.loop-place.invariant))

@@ -6,7 +6,4 @@ use Rattle.decision.proofs.WritingLaws.{Goes}
 use Rattle.decision.proofs.writing.find_place.Given as goal
 
 abbrev pub invariant-loop-place : goal.invariant-loop-place
-invariant-loop-place l = (l.place ≤ end_place) × ((p : ℕ) → p < l.place → Goes l.floor l.table l.cert l.j l.from l.to p → ⊥)
-
-abbrev pub decreases-loop-place : goal.decreases-loop-place
-decreases-loop-place l = end_place - l.place
+invariant-loop-place l = (p : ℕ) → p < l.place → Goes l.floor l.table l.cert l.j l.from l.to p → ⊥
