@@ -13,7 +13,7 @@ use crate::entries::Entry;
 use crate::lens::Lens;
 use crate::request::Request;
 use crate::{entries, reading};
-use wac::{Alone, Cert, Table};
+use wac::{Cert, Table};
 
 // Tries a certificate at the entry that arrives at one place.
 fn try_at(lens: Lens, old: &[u32], new: &mut [u32], cert: Cert, place: usize)
@@ -48,12 +48,11 @@ fn pass_over(lens: Lens, file: &[u8], request: Request, count: usize, old: &[u32
     ensures { Passed lens file.now request old.now new.old new.new }
 {
     for i in 0..count {
-        let found = wac::record_alone(file, i);
-        match found {
-            Alone::Certificate(cert) => if lens.is_live(request, cert) {
-                try_cert(lens, old, new, cert);
-            },
-            Alone::Refused(_) => {}
+        let Ok(cert) = wac::record_alone(file, i) else {
+            continue;
+        };
+        if lens.is_live(request, cert) {
+            try_cert(lens, old, new, cert);
         }
     }
 }

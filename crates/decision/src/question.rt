@@ -24,7 +24,7 @@ use crate::entries::Entry;
 use crate::lens::Lens;
 use crate::request::Request;
 use crate::{entries, passing, writing};
-use wac::{Checked, Refusal, Table};
+use wac::{Refusal, Table};
 
 // Why a question is refused.
 #[derive(Clone, Copy)]
@@ -89,8 +89,8 @@ pub fn admit(file: &[u8], request: Request) -> Admitted
 {
     let checked = wac::check(file);
     match checked {
-        Checked::Accepted(count) => admit_request(request, count),
-        Checked::Refused(why) => Admitted::Refused(Refused::File(why)),
+        Ok(count) => admit_request(request, count),
+        Err(why) => Admitted::Refused(Refused::File(why)),
     }
 }
 

@@ -21,7 +21,7 @@ use crate::entries::Entry;
 use crate::lens::Lens;
 use crate::request::Request;
 use crate::{entries, reading};
-use wac::{Alone, Cert, Table};
+use wac::{Cert, Table};
 
 // Does certificate i bring the entry about by one step more than its subject reads?
 fn brings_by(
@@ -36,8 +36,7 @@ fn brings_by(
     ensures { result ≡ brings file.now request floor table.now i entry.key entry.symbol entry.place }
 {
     let lens = Lens::Steps(floor);
-    let found = wac::record_alone(file, i);
-    let Alone::Certificate(cert) = found else {
+    let Ok(cert) = wac::record_alone(file, i) else {
         return false;
     };
     lens.is_live(request, cert)
@@ -110,8 +109,7 @@ pub fn expand_entry(
         return at;
     }
     let i = find_cert(file, request, floor, count, table, entry);
-    let found = wac::record_alone(file, i);
-    let Alone::Certificate(cert) = found else {
+    let Ok(cert) = wac::record_alone(file, i) else {
         return at;
     };
     chain[at] = (i % 256) as u8;

@@ -15,14 +15,14 @@ expand_entry-returns-then-steps-eq0 t c =
 
 pub expand_entry-returns-in_default : goal.expand_entry-returns-in_default
 expand_entry-returns-in_default t c =
-    absurd (fetched_refused c.record_alone-found.ensures c.requires.0.accepted (bringing_below c.find_cert-i.ensures) c.in_default.is)
+    absurd (fetched_refused c.record_alone.ensures c.requires.0.accepted (bringing_below c.find_cert-i.ensures) c.in_default.is)
 
 pub expand_entry-expand_subject-requires : goal.expand_entry-expand_subject-requires
 expand_entry-expand_subject-requires t c =
     let pre = c.requires in
     let bringing = c.find_cert-i.ensures in
-    let from = c.record_alone-found.ensures in
-    let is = c.in-Certificate.is in
+    let from = c.record_alone.ensures in
+    let is = c.in-Ok.is in
     let steps = bringing_steps bringing (fetched_same from pre.0.accepted (bringing_below bringing) is) in (
       omega (arith, steps),
       (
@@ -37,7 +37,7 @@ pub expand_entry-returns : goal.expand_entry-returns
 expand_entry-returns t c =
     let accepted = c.requires.0.accepted in
     let bringing = c.find_cert-i.ensures in
-    let same = fetched_same c.record_alone-found.ensures accepted (bringing_below bringing) c.in-Certificate.is in
+    let same = fetched_same c.record_alone.ensures accepted (bringing_below bringing) c.in-Ok.is in
     entry_own bringing same (bringing_small bringing accepted) c.expand_subject.ensures
 
 pub expand_subject-loop-j-init : goal.expand_subject-loop-j-init

@@ -9,28 +9,28 @@ use Rattle.decision.proofs.writing.brings_by.Goals.{then-cert-entry, else-cert-e
 pub returns-in_default : goal.returns-in_default
 returns-in_default c =
     let pre = c.requires in
-    absurd (fetched_refused c.record_alone-found.ensures pre.0.accepted pre.1 c.in_default.is)
+    absurd (fetched_refused c.record_alone.ensures pre.0.accepted pre.1 c.in_default.is)
 
 pub read_from-requires : goal.read_from-requires
 read_from-requires c =
-    (c.requires.0.within, (fetched_lawful c.record_alone-found.ensures c.in-Certificate.is).count, omega arith)
+    (c.requires.0.within, (fetched_lawful c.record_alone.ensures c.in-Ok.is).count, omega arith)
 
 pub overflow_add-result : goal.overflow_add-result
 overflow_add-result c =
     let a = c.args in
-    let cert = c.in-Certificate.cert in
+    let cert = c.in-Ok.cert in
     omega (arith, c.read_from.ensures, read_fits a.floor a.table.now cert 0 cert.subject a.entry.place)
 
 pub returns-then-cert-entry-2 : goal.returns-then-cert-entry-2
 returns-then-cert-entry-2 c =
     let a = c.args in
-    let same = fetched_same c.record_alone-found.ensures c.requires.0.accepted c.requires.1 c.in-Certificate.is in
-    let tests = brings_tests a.file.now a.request a.floor a.table.now a.i a.entry.key a.entry.symbol a.entry.place c.in-Certificate.cert same in
+    let same = fetched_same c.record_alone.ensures c.requires.0.accepted c.requires.1 c.in-Ok.is in
+    let tests = brings_tests a.file.now a.request a.floor a.table.now a.i a.entry.key a.entry.symbol a.entry.place c.in-Ok.cert same in
     grind (arith, common_steps, tests)
 
 pub returns-else-cert-entry-2 : goal.returns-else-cert-entry-2
 returns-else-cert-entry-2 c =
     let a = c.args in
-    let same = fetched_same c.record_alone-found.ensures c.requires.0.accepted c.requires.1 c.in-Certificate.is in
-    let tests = brings_tests a.file.now a.request a.floor a.table.now a.i a.entry.key a.entry.symbol a.entry.place c.in-Certificate.cert same in
+    let same = fetched_same c.record_alone.ensures c.requires.0.accepted c.requires.1 c.in-Ok.is in
+    let tests = brings_tests a.file.now a.request a.floor a.table.now a.i a.entry.key a.entry.symbol a.entry.place c.in-Ok.cert same in
     grind (arith, common_steps, tests)
