@@ -1,13 +1,14 @@
 -- Laws of the question's refusals, and of answers in the first 2,592 of the lent places.
 use mathlib.Core.Path.{◌≡◌, refl, sym, ap, ◌∙◌, subst}
 use mathlib.Core.Bool.{Bool, true, false, cond, not}
-use mathlib.Core.List.{List, [], ◌∷◌, ◌++◌}
+use mathlib.Core.List.{List, [], ◌∷◌, ◌++◌, append-nil}
 use Prim.Native.Nat.{ℕ, zero, suc, ◌+◌, ◌<◌, ◌≤◌}
 use native.Mathlib.Omega.{arith}
 use lib.Dec.{leb, ltb, eqb}
 use borrow.Author.Tests.{lt-leb, lt-ltb, le-ltb, ltb-false, leb-false, eqb-true, eqb-false}
 use lib.ListN.{length, get_or, set, replicate, length-set, take, drop, length-append, length-drop, get_or-append}
 use lib.Seq.{get_or-set_same, get_or-set_other, take_at, drop_at, take_all}
+use Rattle.std.specs.Prelude.{Result, Ok, Err}
 use Rattle.wac.specs.Limits.{keys, all_rights, entries, chain_places}
 use Rattle.wac.specs.Answers.{Answer, gives, refuses, ◌if◌, first_of}
 use Rattle.wac.specs.File.{count_of, file_cases}
@@ -23,11 +24,17 @@ use Rattle.decision.specs.declared.question.Refused.{Refused}
 use Rattle.decision.specs.declared.question.Refused.TheVariants.{Places}
 use Rattle.decision.specs.declared.question.Verdict.{Verdict}
 use Rattle.decision.specs.declared.question.Verdict.TheVariants as verdicts
-use Rattle.decision.specs.declared.question.Shown.{Shown}
-use Rattle.decision.specs.declared.question.Shown.TheVariants as shows
 use Rattle.decision.proofs.TableLaws.{number_low}
 use Rattle.decision.proofs.Replies.{number_from}
 use Rattle.decision.proofs.Refusals.{admit_proper}
+
+-- a request's refusals are the same whatever is given where there is none
+module _ (q : Request) {A : Type 0} (a : A) where
+  pub request_refused : {n : ℕ} {vs : List ℕ} → ◌≡◌ {A = Answer (Unit {0})} (first_of (request_cases q) tt) (refuses n vs) → first_of (request_cases q) a ≡ refuses n vs
+  request_refused e = ap (λ cases. first_of cases a) (sym (append-nil (request_cases q))) ∙ first_refused (request_cases q) [] tt a e
+
+  pub request_given : {x : Unit {0}} → ◌≡◌ {A = Answer (Unit {0})} (first_of (request_cases q) tt) (gives x) → first_of (request_cases q) a ≡ gives a
+  request_given e = ap (λ cases. first_of cases a) (sym (append-nil (request_cases q))) ∙ first_given (request_cases q) [] tt a e ∙ first_none a
 
 module _ (s : List ℕ) (q : Request) where
   -- a file and a request in order
@@ -124,32 +131,32 @@ module _ (s : List ℕ) (q : Request) (m m₂ t t₂ : List ℕ) (m-whole : entr
     beyond = back_beyond t t₂ t-whole t-long;
   }
 
-  counted_back : {W N : ℕ} {r : Verdict} {c c' : List ℕ} → Counted s q W N r (take entries t) t₂ c c' → Counted s q W N r t (t₂ ++ drop entries t) c c'
+  counted_back : {W N : ℕ} {r : Result Verdict Refused} {c c' : List ℕ} → Counted s q W N r (take entries t) t₂ c c' → Counted s q W N r t (t₂ ++ drop entries t) c c'
   counted_back (counted n ch low best same held e) = counted n ch low best same (steps_back held) e
   counted_back (uncountable few same held e) = uncountable few same (steps_back held) e
 
   -- an answer in the first places is an answer in all
-  pub answered_back : {r : Verdict} {c c' : List ℕ} → Answered s q r (take entries m) m₂ (take entries t) t₂ c c' → Answered s q r m (m₂ ++ drop entries m) t (t₂ ++ drop entries t) c c'
+  pub answered_back : {r : Result Verdict Refused} {c c' : List ℕ} → Answered s q r (take entries m) m₂ (take entries t) t₂ c c' → Answered s q r m (m₂ ++ drop entries m) t (t₂ ++ drop entries t) c c'
   answered_back (granted W N some best held rest) = granted W N some best (minutes_back held) (counted_back rest)
   answered_back (denied N no-chain held all beyond same e) = denied N no-chain (minutes_back held) (back_first t t₂ t-whole t-long ∙ all) (back_beyond t t₂ t-whole t-long) same e
 
 -- what the read screen shows of each verdict
-abbrev pub shown_of : Verdict → Shown
-shown_of (verdicts.Granted minute steps passes) = shows.Yes
-shown_of (verdicts.NoChain passes) = shows.No
-shown_of (verdicts.GrantedLong minute passes) = shows.Yes
-shown_of (verdicts.Refused why) = shows.Refused (refusal_number why)
+abbrev pub shown_of : Result Verdict Refused → Result Bool ℕ
+shown_of (Ok (verdicts.Granted minute steps passes)) = Ok true
+shown_of (Ok (verdicts.NoChain passes)) = Ok false
+shown_of (Ok (verdicts.GrantedLong minute passes)) = Ok true
+shown_of (Err why) = Err (refusal_number why)
 
 -- what the read screen makes of a reply
 screen : Reply → Answer Bool
 screen r = cond (ltb r.number 10) (gives (not (eqb r.number 1))) (refuses r.number [])
 
-shown_screen : (r : Verdict) → shown_as (shown_of r) ≡ screen (reply_of r)
+shown_screen : (r : Result Verdict Refused) → shown_as (shown_of r) ≡ screen (reply_of r)
 unfolding screen
-shown_screen (verdicts.Granted minute steps passes) = refl
-shown_screen (verdicts.NoChain passes) = refl
-shown_screen (verdicts.GrantedLong minute passes) = refl
-shown_screen (verdicts.Refused why) = rw (le-ltb _ _ (number_from why))
+shown_screen (Ok (verdicts.Granted minute steps passes)) = refl
+shown_screen (Ok (verdicts.NoChain passes)) = refl
+shown_screen (Ok (verdicts.GrantedLong minute passes)) = refl
+shown_screen (Err why) = rw (le-ltb _ _ (number_from why))
 
 -- with places enough lent, the question's verdict shown is what the read screen shows
 module _ (s : List ℕ) (q : Request) (m m' t t' c c' : List ℕ) (m-long : entries ≤ length m) (t-long : entries ≤ length t) (c-long : chain_places ≤ length c) where
@@ -159,15 +166,15 @@ module _ (s : List ℕ) (q : Request) (m m' t t' c c' : List ℕ) (m-long : entr
       first_alone (file_cases s ++ request_cases q) _ (count_of s)
       (first_fails _ _ _ (le-ltb _ _ m-long) ∙ first_fails _ _ _ (le-ltb _ _ t-long) ∙ first_fails _ _ _ (le-ltb _ _ c-long) ∙ first_none _)
 
-  shown_by : (r : Verdict) (x : Reply) → reply_of r ≡ x → shown_as (shown_of r) ≡ screen x
+  shown_by : (r : Result Verdict Refused) (x : Reply) → reply_of r ≡ x → shown_as (shown_of r) ≡ screen x
   shown_by r x e = shown_screen r ∙ ap screen e
 
-  shown_counted : {W N : ℕ} {r : Verdict} → Counted s q W N r t t' c c' → shown_as (shown_of r) ≡ gives true
+  shown_counted : {W N : ℕ} {r : Result Verdict Refused} → Counted s q W N r t t' c c' → shown_as (shown_of r) ≡ gives true
   unfolding screen
   shown_counted {r = r} (counted n ch low best same held e) = shown_by r _ e
   shown_counted {r = r} (uncountable few same held e) = shown_by r _ e
 
-  pub verdict_shown : {r : Verdict} → Judged s q r m m' t t' c c' → Shows s q (shown_as (shown_of r))
+  pub verdict_shown : {r : Result Verdict Refused} → Judged s q r m m' t t' c c' → Shows s q (shown_as (shown_of r))
   unfolding screen
   verdict_shown {r} (refused n vs case e at-m at-t at_c) =
       let plain = sym no_places ∙ case in
@@ -229,12 +236,8 @@ module _ (s : List ℕ) (owner at n : ℕ) (l : List Bool) (h : Stocking s owner
       turn k below true e = subst (λ k. Shows s (request_of owner k 2 at) (gives (get_or l' k false))) (sym (eqb-true k n e)) here
       turn k below false e = let apart = eqb-false k n e in rw (same k apart) (h.shown k (omega arith))
 
-  -- a yes is set, a no stays
-  module _ {a : Answer Bool} (here : Shows s (request_of owner n 2 at) a) where
-    pub stocking_yes : a ≡ gives true → Stocking s owner at (n + 1) (set l n true)
-    stocking_yes e =
-        stocking_next (set l n true) (length-set l n true) (λ k apart. get_or-set_other l n k true false apart)
-        (rw (get_or-set_same l n true false (omega (arith, h.long))) (subst (Shows s (request_of owner n 2 at)) e here))
-
-    pub stocking_no : a ≡ gives false → Stocking s owner at (n + 1) l
-    stocking_no e = stocking_next l refl (λ k apart. refl) (rw (h.later n (omega arith)) (subst (Shows s (request_of owner n 2 at)) e here))
+  -- what is shown is set
+  pub stocking_set : (b : Bool) → Shows s (request_of owner n 2 at) (gives b) → Stocking s owner at (n + 1) (set l n b)
+  stocking_set b here =
+      stocking_next (set l n b) (length-set l n b) (λ k apart. get_or-set_other l n k b false apart)
+      (rw (get_or-set_same l n b false (omega (arith, h.long))) here)

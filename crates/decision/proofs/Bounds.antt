@@ -5,6 +5,7 @@ use Prim.Native.Nat.{ℕ, ◌+◌, ◌*◌, ◌<◌, ◌≤◌}
 use native.Mathlib.Omega.{arith}
 use lib.ListN.{length, get_or}
 use borrow.Author.Tests.{ltb-false}
+use Rattle.std.specs.Prelude.{Result, Ok, Err}
 use Rattle.wac.specs.Limits.{entries, certificates, chain_places, without_end}
 use Rattle.wac.specs.Bytes.{AreBytes}
 use Rattle.wac.specs.Answers.{gives, refuses, first_of}
@@ -18,16 +19,15 @@ use Rattle.rewriting.proofs.Sound.{weighed_fits}
 use Rattle.rewriting.proofs.Settling.{settles, ranks_most, count_unique}
 use Rattle.rewriting.proofs.Bound.{passes_bounded}
 use Rattle.decision.specs.Usable.{rules_of}
-use Rattle.decision.specs.Question.{request_cases, ask_cases, settle_cases, Ready, asked, reply_of, refusal_values, refusal_record, settling_as, Counted, Counted.counted, Counted.uncountable, Answered.granted, Answered.denied, Judged, Judged.refused, Judged.answered, Settles, Settles.refused, Settles.settled}
+use Rattle.decision.specs.Question.{request_cases, ask_cases, settle_cases, Ready, asked, reply_of, refusal_values, refusal_record, answered_as, Counted, Counted.counted, Counted.uncountable, Answered.granted, Answered.denied, Judged, Judged.refused, Judged.answered, Settles, Settles.refused, Settles.settled}
 use Rattle.decision.specs.declared.request.Request.{Request}
 use Rattle.decision.specs.declared.lens.Lens.TheVariants.{Minutes}
+use Rattle.decision.specs.declared.question.Refused.{Refused}
 use Rattle.decision.specs.declared.question.Verdict.{Verdict}
 use Rattle.decision.specs.declared.question.Verdict.TheVariants as verdicts
-use Rattle.decision.specs.declared.question.Settling.{Settling}
-use Rattle.decision.specs.declared.question.Settling.TheVariants as settlings
 use Rattle.decision.proofs.RulesLaws.{rules_lawful}
 use Rattle.decision.proofs.TableLaws.{list_held}
-use Rattle.decision.proofs.Replies.{reply_unique, settling_unique}
+use Rattle.decision.proofs.Replies.{reply_unique, answered_as_unique}
 use Rattle.decision.proofs.Refusals.{Proper, ask_proper, settle_proper}
 use Rattle.decision.proofs.AskLaws.{admitted_ready, minutes_within}
 
@@ -36,27 +36,27 @@ abbrev pub most_passes : ℕ
 most_passes = 2576
 
 -- a verdict's values are within these bounds
-abbrev pub Bounded : Verdict → Type 0
-Bounded (verdicts.Granted minute steps passes) = (minute ≤ without_end) × (steps ≤ chain_places) × (passes ≤ most_passes)
-Bounded (verdicts.NoChain passes) = passes ≤ most_passes
-Bounded (verdicts.GrantedLong minute passes) = (minute ≤ without_end) × (passes ≤ most_passes)
-Bounded (verdicts.Refused why) = refusal_record why < certificates
+abbrev pub Bounded : Result Verdict Refused → Type 0
+Bounded (Ok (verdicts.Granted minute steps passes)) = (minute ≤ without_end) × (steps ≤ chain_places) × (passes ≤ most_passes)
+Bounded (Ok (verdicts.NoChain passes)) = passes ≤ most_passes
+Bounded (Ok (verdicts.GrantedLong minute passes)) = (minute ≤ without_end) × (passes ≤ most_passes)
+Bounded (Err why) = refusal_record why < certificates
 
 -- so are the values of settling: a pass more than the ranks of 2,592 minutes
-abbrev pub BoundedSettling : Settling → Type 0
-BoundedSettling (settlings.Passes passes) = passes ≤ entries * without_end + 1
-BoundedSettling (settlings.Refused why) = refusal_record why < certificates
+abbrev pub BoundedSettling : Result ℕ Refused → Type 0
+BoundedSettling (Ok passes) = passes ≤ entries * without_end + 1
+BoundedSettling (Err why) = refusal_record why < certificates
 
 -- a refused verdict, and a refused settling
-refused_bounded : (r : Verdict) {n : ℕ} {vs : List ℕ} → Proper n vs → reply_of r ≡ record { number = n; values = vs } → Bounded r
-refused_bounded (verdicts.Granted minute steps passes) p e = let z = ap (λ x. x.number) e in let from = p.from in absurd (omega arith)
-refused_bounded (verdicts.NoChain passes) p e = let z = ap (λ x. x.number) e in let from = p.from in absurd (omega arith)
-refused_bounded (verdicts.GrantedLong minute passes) p e = let z = ap (λ x. x.number) e in let from = p.from in absurd (omega arith)
-refused_bounded (verdicts.Refused why) p e = rw (ap (λ x. x.values) e) p.record_low
+refused_bounded : (r : Result Verdict Refused) {n : ℕ} {vs : List ℕ} → Proper n vs → reply_of r ≡ record { number = n; values = vs } → Bounded r
+refused_bounded (Ok (verdicts.Granted minute steps passes)) p e = let z = ap (λ x. x.number) e in let from = p.from in absurd (omega arith)
+refused_bounded (Ok (verdicts.NoChain passes)) p e = let z = ap (λ x. x.number) e in let from = p.from in absurd (omega arith)
+refused_bounded (Ok (verdicts.GrantedLong minute passes)) p e = let z = ap (λ x. x.number) e in let from = p.from in absurd (omega arith)
+refused_bounded (Err why) p e = rw (ap (λ x. x.values) e) p.record_low
 
-refused_settling : (r : Settling) {n : ℕ} {vs : List ℕ} → Proper n vs → settling_as r ≡ refuses n vs → BoundedSettling r
-refused_settling (settlings.Passes passes) p e = absurd (gives_not_refuses e)
-refused_settling (settlings.Refused why) {n} {vs} p e = let same : refusal_values why ≡ vs = cc in rw same p.record_low
+refused_settling : (r : Result ℕ Refused) {n : ℕ} {vs : List ℕ} → Proper n vs → answered_as r ≡ refuses n vs → BoundedSettling r
+refused_settling (Ok passes) p e = absurd (gives_not_refuses e)
+refused_settling (Err why) {n} {vs} p e = let same : refusal_values why ≡ vs = cc in rw same p.record_low
 
 module _ {s : List ℕ} {q : Request} where
   -- a question, and a table, that are not refused
@@ -83,7 +83,7 @@ module _ {s : List ℕ} {q : Request} (bytes : AreBytes s) where
     minute_low best = let low = weighed_fits lawful best.chain in let weighs = best.weighs in omega arith
 
   -- the verdict of a question: at most 2,576 passes, at most 200 steps, a minute of 32 bits, a record below 128
-  pub judged_passes : {r : Verdict} {m m' t t' c c' : List ℕ} → Judged s q r m m' t t' c c' → Bounded r
+  pub judged_passes : {r : Result Verdict Refused} {m m' t t' c c' : List ℕ} → Judged s q r m m' t t' c c' → Bounded r
   judged_passes {r} {m} {t = t} {c = c} (refused n vs case e at-m at-t at_c) = refused_bounded r (ask_proper s q (length m) (length t) (length c) case) e
   judged_passes {r} {m} {t = t} {t'} {c} {c'} (answered case (granted W N some best held rest)) = turn rest
     where
@@ -92,14 +92,14 @@ module _ {s : List ℕ} {q : Request} (bytes : AreBytes s) where
 
       turn : Counted s q W N r t t' c c' → Bounded r
       turn (counted n ch low shortest same steps e) =
-          subst Bounded (sym (reply_unique r (verdicts.Granted W n N) e)) (minute_low ready best, low, passes_few ready held.count)
+          subst Bounded (sym (reply_unique r (Ok (verdicts.Granted W n N)) e)) (minute_low ready best, low, passes_few ready held.count)
       turn (uncountable few same steps e) =
-          subst Bounded (sym (reply_unique r (verdicts.GrantedLong W N) e)) (minute_low ready best, passes_few ready held.count)
+          subst Bounded (sym (reply_unique r (Ok (verdicts.GrantedLong W N)) e)) (minute_low ready best, passes_few ready held.count)
   judged_passes {r} {m} {t = t} {c = c} (answered case (denied N none held all beyond same e)) =
-      subst Bounded (sym (reply_unique r (verdicts.NoChain N) e)) (passes_few (ask_ready (length m) (length t) (length c) case) held.count)
+      subst Bounded (sym (reply_unique r (Ok (verdicts.NoChain N)) e)) (passes_few (ask_ready (length m) (length t) (length c) case) held.count)
 
   -- the passes over any table of minutes are fewer than 2^56
-  pub settles_passes : {r : Settling} {t t' : List ℕ} → ((i : ℕ) → get_or t i 0 ≤ without_end) → Settles s q r t t' → BoundedSettling r
+  pub settles_passes : {r : Result ℕ Refused} {t t' : List ℕ} → ((i : ℕ) → get_or t i 0 ≤ without_end) → Settles s q r t t' → BoundedSettling r
   unfolding minutes
   settles_passes {r} {t} fits (refused n vs case e same) = refused_settling r (settle_proper s q (length t) case) e
   settles_passes {r} {t} fits (settled case N from e) =
@@ -107,4 +107,4 @@ module _ {s : List ℕ} {q : Request} (bytes : AreBytes s) where
       let ok = lawful ready in
       let within = list_held Minutes q.asker t (minutes_within t (settle_ready (length t) case).1 (λ i. omega (arith, fits i))) in
       let most = settles ok within in
-      subst BoundedSettling (sym (settling_unique r (settlings.Passes N) e)) (omega (arith, count_unique from.count most.1, most.2, ranks_most ok within))
+      subst BoundedSettling (sym (answered_as_unique r (Ok N) e)) (omega (arith, count_unique from.count most.1, most.2, ranks_most ok within))

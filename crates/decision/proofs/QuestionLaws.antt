@@ -9,6 +9,7 @@ use native.Mathlib.Omega.{arith}
 use borrow.Author.Tests.{leb-true}
 use lib.Dec.{leb, eqb}
 use lib.ListN.{length, get_or, take, drop, replicate, drop_of_length-le, get_or-eq_default}
+use Rattle.std.specs.Prelude.{Result, Ok}
 use Rattle.wac.specs.Limits.{keys, entries, chain_places, authorization_kind}
 use Rattle.wac.specs.Bytes.{AreBytes}
 use Rattle.wac.specs.File.{cert_at}
@@ -35,6 +36,7 @@ use Rattle.decision.specs.Question.{asked, Ready, Granting, MinutesHeld, StepsHe
 use Rattle.decision.specs.declared.request.Request.{Request}
 use Rattle.decision.specs.declared.lens.Lens.{Lens}
 use Rattle.decision.specs.declared.lens.Lens.TheVariants.{Minutes, Steps}
+use Rattle.decision.specs.declared.question.Refused.{Refused}
 use Rattle.decision.specs.declared.question.Verdict.{Verdict}
 use Rattle.decision.specs.declared.question.Verdict.TheVariants as verdicts
 use Rattle.decision.proofs.WritingLaws.{at_fits}
@@ -152,7 +154,7 @@ module _ {s : List ℕ} {q : Request} (bytes : AreBytes s) {count W : ℕ} (g : 
     fewest_owner = rw (ap (λ t. t q.owner delegate keys) done.table) (settled_fewest by_minutes_lem done.before W done.settled minutes_by_weakest q.owner g.best)
 
     -- every best chain has more than 200 steps
-    pub counted_long : {P n : ℕ} {ch : List ℕ} → n ≡ steps_at W l₂ q.owner delegate keys → chain_places < n → Counted s q W P (verdicts.GrantedLong W P) l l₂ ch ch
+    pub counted_long : {P n : ℕ} {ch : List ℕ} → n ≡ steps_at W l₂ q.owner delegate keys → chain_places < n → Counted s q W P (Ok (verdicts.GrantedLong W P)) l l₂ ch ch
     counted_long e h =
         let top = at_fits W l₂ q.owner delegate keys done.within in
         let most : steps_at W l₂ q.owner delegate keys ≡ uncounted = omega arith in
@@ -160,7 +162,7 @@ module _ {s : List ℕ} {q : Request} (bytes : AreBytes s) {count W : ℕ} (g : 
 
     -- a shortest best chain is written out
     pub counted_short : {P n : ℕ} {ch ch' : List ℕ} {r : ℕ} → n ≡ steps_at W l₂ q.owner delegate keys → n ≤ chain_places →
-        Wrote (Entered s q W q.owner delegate keys) 0 (steps_at W l₂ q.owner delegate keys) ch ch' r → Counted s q W P (verdicts.Granted W n P) l l₂ ch ch'
+        Wrote (Entered s q W q.owner delegate keys) 0 (steps_at W l₂ q.owner delegate keys) ch ch' r → Counted s q W P (Ok (verdicts.Granted W n P)) l l₂ ch ch'
     counted_short {n = n} e h w =
         counted n w.list h (record { best = g.best; weighs = entered_weighs w.list w.holds; long = w.long ∙ sym e; fewest = rw e fewest_owner }) w.written steps_held refl
 
@@ -186,7 +188,7 @@ module _ {s : List ℕ} {q : Request} (bytes : AreBytes s) {count : ℕ} (ready 
 
     -- no chain
     pub answered_none : {m : ℕ} → m ≡ held Minutes l₂ q.owner delegate keys → m ≡ 0 → {t t' ch : List ℕ} →
-        (take entries t' ≡ replicate entries uncounted) × (drop entries t' ≡ drop entries t) → Answered s q (verdicts.NoChain N) l l₂ t t' ch ch
+        (take entries t' ≡ replicate entries uncounted) × (drop entries t' ≡ drop entries t) → Answered s q (Ok (verdicts.NoChain N)) l l₂ t t' ch ch
     unfolding minutes
     answered_none e z steps = ⊎_elim (λ d. denied N d.1 minutes_held steps.0 steps.1 refl refl) (λ d. absurd (d.0 z)) (owner_decides e)
 
@@ -195,6 +197,6 @@ module _ {s : List ℕ} {q : Request} (bytes : AreBytes s) {count : ℕ} (ready 
     unfolding minutes
     granting e some = ⊎_elim (λ d. absurd (some d.0)) (λ d. record { ready = ready; best = d.1 }) (owner_decides e)
 
-    pub answered_granted : {m : ℕ} → m ≡ held Minutes l₂ q.owner delegate keys → (m ≡ 0 → ⊥) → {r : Verdict} {t t' ch ch' : List ℕ} →
+    pub answered_granted : {m : ℕ} → m ≡ held Minutes l₂ q.owner delegate keys → (m ≡ 0 → ⊥) → {r : Result Verdict Refused} {t t' ch ch' : List ℕ} →
         Counted s q m N r t t' ch ch' → Answered s q r l l₂ t t' ch ch'
     answered_granted {m} e some c = granted m N some (granting e some).best minutes_held c

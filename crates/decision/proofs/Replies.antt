@@ -1,29 +1,21 @@
--- What comes back determines the answer: a number with its values is that of one verdict, of one showing, of one settling.
-use mathlib.Core.Path.{◌≡◌, refl, sym, ap, ◌∙◌}
-use mathlib.Core.Bool.{Bool, cond}
+-- What comes back determines the answer: a number with its values is that of one verdict, of one result, of one showing.
+use mathlib.Core.Path.{◌≡◌, refl, ap}
+use mathlib.Core.Bool.{cond}
 use mathlib.Core.List.{List}
 use Prim.Native.Nat.{ℕ, ◌≤◌}
 use native.Mathlib.Omega.{arith}
 use lib.Dec.{eqb, ltb}
 use lib.ListN.{get_or}
 use borrow.Author.Tests.{le-ltb}
+use Rattle.std.specs.Prelude.{Result, Ok, Err}
 use Rattle.wac.specs.Answers.{Answer, gives, refuses}
 use Rattle.wac.specs.declared.refusal.Refusal.TheVariants.{Short, NotWac, Version, TooMany, Length, Against, Room, NoSuch}
-use Rattle.wac.proofs.Cases.{gives_not_refuses}
 use Rattle.wac.proofs.Unique.{told_apart, refusal_of, refusal_back}
-use Rattle.decision.specs.Question.{Reply, reply_of, refusal_number, refusal_values, admitted_as, shown_as, stocked_as, settling_as}
+use Rattle.decision.specs.Question.{Reply, reply_of, refusal_number, refusal_values, answered_as, shown_as}
 use Rattle.decision.specs.declared.question.Refused.{Refused}
 use Rattle.decision.specs.declared.question.Refused.TheVariants.{File, Keys, Rights, Minute, Places}
 use Rattle.decision.specs.declared.question.Verdict.{Verdict}
 use Rattle.decision.specs.declared.question.Verdict.TheVariants as verdicts
-use Rattle.decision.specs.declared.question.Admitted.{Admitted}
-use Rattle.decision.specs.declared.question.Admitted.TheVariants as admits
-use Rattle.decision.specs.declared.question.Shown.{Shown}
-use Rattle.decision.specs.declared.question.Shown.TheVariants as shows
-use Rattle.decision.specs.declared.question.Stocked.{Stocked}
-use Rattle.decision.specs.declared.question.Stocked.TheVariants as stocks
-use Rattle.decision.specs.declared.question.Settling.{Settling}
-use Rattle.decision.specs.declared.question.Settling.TheVariants as settlings
 
 -- a refusal's number is 10 or more
 pub number_from : (why : Refused) → 10 ≤ refusal_number why
@@ -59,81 +51,49 @@ refused_back Rights = refl
 refused_back Minute = refl
 refused_back Places = refl
 
--- the verdict of a reply
-verdict_of : Reply → Verdict
+-- the verdict of a reply, or its refusal
+verdict_of : Reply → Result Verdict Refused
 verdict_of r =
     let first = get_or r.values 0 0 in
     let second = get_or r.values 1 0 in
     cond (ltb r.number 10)
-    (cond (eqb r.number 0) (verdicts.Granted first second (get_or r.values 2 0))
-    (cond (eqb r.number 1) (verdicts.NoChain first) (verdicts.GrantedLong first second)))
-    (verdicts.Refused (refused_of r.number r.values))
+    (cond (eqb r.number 0) (Ok (verdicts.Granted first second (get_or r.values 2 0)))
+    (cond (eqb r.number 1) (Ok (verdicts.NoChain first)) (Ok (verdicts.GrantedLong first second))))
+    (Err (refused_of r.number r.values))
 
-verdict_back : (r : Verdict) → verdict_of (reply_of r) ≡ r
+verdict_back : (r : Result Verdict Refused) → verdict_of (reply_of r) ≡ r
 unfolding verdict_of
-verdict_back (verdicts.Granted minute steps passes) = refl
-verdict_back (verdicts.NoChain passes) = refl
-verdict_back (verdicts.GrantedLong minute passes) = refl
-verdict_back (verdicts.Refused why) = rw (le-ltb _ _ (number_from why)) (ap verdicts.Refused (refused_back why))
+verdict_back (Ok (verdicts.Granted minute steps passes)) = refl
+verdict_back (Ok (verdicts.NoChain passes)) = refl
+verdict_back (Ok (verdicts.GrantedLong minute passes)) = refl
+verdict_back (Err why) = rw (le-ltb _ _ (number_from why)) (ap Err (refused_back why))
 
 -- a reply is that of one verdict
-pub reply_unique : (r r' : Verdict) → reply_of r ≡ reply_of r' → r ≡ r'
+pub reply_unique : (r r' : Result Verdict Refused) → reply_of r ≡ reply_of r' → r ≡ r'
 reply_unique r r' e = told_apart reply_of verdict_of verdict_back r r' e
 
-admitted_of : Answer ℕ → Admitted
-admitted_of (gives n) = admits.Count n
-admitted_of (refuses n vs) = admits.Refused (refused_of n vs)
+result_of : {A : Type 0} → Answer A → Result A Refused
+result_of (gives a) = Ok a
+result_of (refuses n vs) = Err (refused_of n vs)
 
-admitted_back : (r : Admitted) → admitted_of (admitted_as r) ≡ r
-unfolding admitted_of
-admitted_back (admits.Count n) = refl
-admitted_back (admits.Refused why) = ap admits.Refused (refused_back why)
+answered_back : {A : Type 0} (r : Result A Refused) → result_of (answered_as r) ≡ r
+unfolding result_of
+answered_back (Ok a) = refl
+answered_back (Err why) = ap Err (refused_back why)
 
--- what being in order comes back as is so of one answer
-pub admitted_unique : (r r' : Admitted) → admitted_as r ≡ admitted_as r' → r ≡ r'
-admitted_unique r r' e = told_apart admitted_as admitted_of admitted_back r r' e
+-- what comes back is so of one result
+pub answered_as_unique : {A : Type 0} (r r' : Result A Refused) → answered_as r ≡ answered_as r' → r ≡ r'
+answered_as_unique r r' e = told_apart answered_as result_of answered_back r r' e
 
-settling_of : Answer ℕ → Settling
-settling_of (gives n) = settlings.Passes n
-settling_of (refuses n vs) = settlings.Refused (refused_of n vs)
+numbered_of : {A : Type 0} → Answer A → Result A ℕ
+numbered_of (gives a) = Ok a
+numbered_of (refuses n vs) = Err n
 
-settling_back : (r : Settling) → settling_of (settling_as r) ≡ r
-unfolding settling_of
-settling_back (settlings.Passes n) = refl
-settling_back (settlings.Refused why) = ap settlings.Refused (refused_back why)
+shown_back : {A : Type 0} (r : Result A ℕ) → numbered_of (shown_as r) ≡ r
+unfolding numbered_of
+shown_back (Ok a) = refl
+shown_back (Err n) = refl
 
--- what settling comes back as is so of one answer
-pub settling_unique : (r r' : Settling) → settling_as r ≡ settling_as r' → r ≡ r'
-settling_unique r r' e = told_apart settling_as settling_of settling_back r r' e
-
-shown_of : Answer Bool → Shown
-shown_of (gives b) = cond b shows.Yes shows.No
-shown_of (refuses n vs) = shows.Refused n
-
-shown_back : (r : Shown) → shown_of (shown_as r) ≡ r
-unfolding shown_of
-shown_back shows.Yes = refl
-shown_back shows.No = refl
-shown_back (shows.Refused n) = refl
-
--- what the read screen comes back as is so of one showing
-pub shown_unique : (r r' : Shown) → shown_as r ≡ shown_as r' → r ≡ r'
-shown_unique r r' e = told_apart shown_as shown_of shown_back r r' e
-
-stocked_of : Answer (List Bool) → Stocked
-stocked_of (gives shown) = stocks.Given
-stocked_of (refuses n vs) = stocks.Refused n
-
-stocked_back : (r : Stocked) (shown : List Bool) → stocked_of (stocked_as r shown) ≡ r
-unfolding stocked_of
-stocked_back stocks.Given shown = refl
-stocked_back (stocks.Refused n) shown = refl
-
--- what the stock list comes back as is so of one answer
-pub stocked_unique : (r r' : Stocked) (shown shown' : List Bool) → stocked_as r shown ≡ stocked_as r' shown' → r ≡ r'
-stocked_unique r r' shown shown' e = sym (stocked_back r shown) ∙ ap stocked_of e ∙ stocked_back r' shown'
-
--- and where it is given, of one list
-pub stocked_given : (r : Stocked) (shown shown' : List Bool) → stocked_as r shown ≡ gives shown' → shown ≡ shown'
-stocked_given stocks.Given shown shown' e = cc
-stocked_given (stocks.Refused n) shown shown' e = absurd (gives_not_refuses (sym e))
+-- what the read screen and the stock list come back as is so of one showing
+pub shown_unique : {A : Type 0} (r r' : Result A ℕ) → shown_as r ≡ shown_as r' → r ≡ r'
+shown_unique r r' e = told_apart shown_as numbered_of shown_back r r' e

@@ -1,6 +1,5 @@
 -- Laws of passes until one changes nothing: what the loop of passes keeps, that it ends, and what it leaves.
 use mathlib.Core.Path.{◌≡◌, refl, sym, ap, ◌∙◌, subst}
-use mathlib.Core.Bool.{true}
 use mathlib.Core.Logic.{⊎_elim, by_cases}
 use mathlib.Core.List.{List, [], ◌∷◌}
 use Prim.Native.Nat.{ℕ, zero, suc, ◌+◌, ◌-◌, ◌*◌, ◌<◌, ◌≤◌}
@@ -19,12 +18,12 @@ use Rattle.rewriting.specs.Tables.{Held}
 use Rattle.rewriting.proofs.Held.{repeated_held}
 use Rattle.rewriting.proofs.Settling.{ranks, ranks_fall, ranks_most}
 use Rattle.decision.specs.Lens.{weighing_of, question_by, rules_by}
-use Rattle.decision.specs.Table.{is_entry, number, key_of, symbol_of, arrival_of, row_of}
+use Rattle.decision.specs.Table.{number, row_of}
 use Rattle.decision.specs.Engine.{Within, held, Passed, SettledFrom}
 use Rattle.decision.specs.declared.request.Request.{Request}
 use Rattle.decision.specs.declared.lens.Lens.{Lens}
 use Rattle.decision.specs.declared.lens.Lens.TheVariants.{Minutes, Steps}
-use Rattle.decision.proofs.TableLaws.{entry_of_lem, is_entry_lem, number_low, number_back, entry_back, row_same, row_entry, row_at, held_at, list_held, held_row, within_row}
+use Rattle.decision.proofs.TableLaws.{entry_of_lem, is_entry_lem, row_same, row_entry, row_at, held_at, list_held, held_row, within_row}
 
 -- the first 2,592 places of a list within the cap are within
 pub within_take : (lens : Lens) (l : List ℕ) → Within lens l → Within lens (take entries l)

@@ -9,6 +9,7 @@ use lib.Dec.{ltb}
 use lib.ListN.{length, get_or, take, drop, take-append-drop}
 use lib.Seq.{get_or-drop, ext_get_or, sets, sets-eq, take_at, drop_at}
 use borrow.Author.Tests.{ltb-true, ltb-false}
+use Rattle.std.specs.Prelude.{Result}
 use Rattle.wac.specs.Limits.{entries, chain_places}
 use Rattle.wac.specs.Answers.{Answer, gives, refuses, first_of}
 use Rattle.wac.specs.File.{count_of, file_cases}
@@ -18,19 +19,16 @@ use Rattle.rewriting.proofs.Settling.{count_unique}
 use Rattle.rewriting.proofs.Steps.{fewest_unique}
 use Rattle.decision.specs.Question.{request_cases, Admits, Reply, reply, reply_of, shown_as, MinutesHeld, StepsHeld, ShortestBest, Counted, Counted.counted, Counted.uncountable, Answered, Answered.granted, Answered.denied, Judged, Judged.refused, Judged.answered, Shows, Stocks, Settles}
 use Rattle.decision.specs.declared.request.Request.{Request}
-use Rattle.decision.specs.declared.question.Admitted.{Admitted}
+use Rattle.decision.specs.declared.question.Refused.{Refused}
 use Rattle.decision.specs.declared.question.Verdict.{Verdict}
-use Rattle.decision.specs.declared.question.Shown.{Shown}
-use Rattle.decision.specs.declared.question.Settling.{Settling}
-use Rattle.decision.specs.declared.question.StockList.{StockList}
 use Rattle.decision.proofs.TableLaws.{entry_back, number_back}
-use Rattle.decision.proofs.Replies.{reply_unique, admitted_unique, shown_unique, stocked_unique, stocked_given, settling_unique}
+use Rattle.decision.proofs.Replies.{reply_unique, answered_as_unique, shown_unique}
 use Rattle.decision.proofs.Refusals.{ask_proper}
 use Rattle.decision.proofs.AskLaws.{places_enough}
 
 -- `admit`: one answer, one result
-pub admit_unique : (s : List ℕ) (q : Request) (r r' : Admitted) → Admits s q r → Admits s q r' → r ≡ r'
-admit_unique s q r r' e f = admitted_unique r r' (e ∙ sym f)
+pub admit_unique : (s : List ℕ) (q : Request) (r r' : Result ℕ Refused) → Admits s q r → Admits s q r' → r ≡ r'
+admit_unique s q r r' e f = answered_as_unique r r' (e ∙ sym f)
 
 -- lists with the same first places and the same places beyond are the same
 same_parts : (l l' : List ℕ) → take entries l ≡ take entries l' → drop entries l ≡ drop entries l' → l ≡ l'
@@ -80,7 +78,7 @@ module _ {s : List ℕ} {q : Request} where
       let all : c' ≡ ch ++ drop n c = e ∙ sets-eq ch c 0 (omega arith) ∙ ap (λ k. ch ++ drop k c) {x = 0 + length ch} {y = n} (omega arith) in
       (rw (all, take_at ch (drop n c) n long) best, rw (all, drop_at ch (drop n c) n long))
 
-  counted_unique : {W N : ℕ} {r r' : Verdict} {t t₁ t₂ c c₁ c₂ : List ℕ} → chain_places ≤ length c → Counted s q W N r t t₁ c c₁ → Counted s q W N r' t t₂ c c₂ →
+  counted_unique : {W N : ℕ} {r r' : Result Verdict Refused} {t t₁ t₂ c c₁ c₂ : List ℕ} → chain_places ≤ length c → Counted s q W N r t t₁ c c₁ → Counted s q W N r' t t₂ c c₂ →
       (reply_of r ≡ reply_of r') × (t₁ ≡ t₂) × ChainsAgree s q (reply_of r) c₁ c₂
   counted_unique {W} {N} {r' = r'} {t = t} {t₂ = t₂} {c = c} {c₁} {c₂} wide (counted n ch low best same held e) (counted n' ch' low' best' same' held' e') =
       let alike = fewest_unique best'.fewest best.fewest in
@@ -92,7 +90,7 @@ module _ {s : List ℕ} {q : Request} where
   counted_unique wide (uncountable few same held e) (uncountable few' same' held' e') =
       (e ∙ sym e', steps_unique held held', everywhere (λ z. let k = ap (λ x. x.number) e in omega arith) (same ∙ sym same'))
 
-  answered_unique : {r r' : Verdict} {m m₁ m₂ t t₁ t₂ c c₁ c₂ : List ℕ} → chain_places ≤ length c → Answered s q r m m₁ t t₁ c c₁ → Answered s q r' m m₂ t t₂ c c₂ →
+  answered_unique : {r r' : Result Verdict Refused} {m m₁ m₂ t t₁ t₂ c c₁ c₂ : List ℕ} → chain_places ≤ length c → Answered s q r m m₁ t t₁ c c₁ → Answered s q r' m m₂ t t₂ c c₂ →
       (reply_of r ≡ reply_of r') × (m₁ ≡ m₂) × (t₁ ≡ t₂) × ChainsAgree s q (reply_of r) c₁ c₂
   answered_unique {r} {r'} {t = t} {t₁} {t₂} {c} {c₁} {c₂} wide (granted W N some best held rest) (granted W' N' some' best' held' rest') =
       let same = minutes_unique held held' in
@@ -110,7 +108,7 @@ module _ {s : List ℕ} {q : Request} where
       )
 
   -- `ask` and `ask_short`: one verdict, one list of minutes, one of steps, and chains that agree
-  pub judged_unique : {r r' : Verdict} {m m₁ m₂ t t₁ t₂ c c₁ c₂ : List ℕ} → Judged s q r m m₁ t t₁ c c₁ → Judged s q r' m m₂ t t₂ c c₂ →
+  pub judged_unique : {r r' : Result Verdict Refused} {m m₁ m₂ t t₁ t₂ c c₁ c₂ : List ℕ} → Judged s q r m m₁ t t₁ c c₁ → Judged s q r' m m₂ t t₂ c c₂ →
       (r ≡ r') × (m₁ ≡ m₂) × (t₁ ≡ t₂) × ChainsAgree s q (reply_of r) c₁ c₂
   judged_unique {r} {r'} {m = m} {t = t} {c = c} (refused n vs case e at-m at-t at_c) (refused n' vs' case' e' at-m' at-t' at-c') =
       let from = (ask_proper s q (length m) (length t) (length c) case).from in
@@ -139,17 +137,17 @@ module _ {s : List ℕ} {q : Request} where
   shows_alike (Shows.no case none e) (Shows.no case' none' e') = e ∙ sym e'
 
   -- `may`: one showing
-  pub shows_unique : (r r' : Shown) → Shows s q (shown_as r) → Shows s q (shown_as r') → r ≡ r'
+  pub shows_unique : (r r' : Result Bool ℕ) → Shows s q (shown_as r) → Shows s q (shown_as r') → r ≡ r'
   shows_unique r r' h g = shown_unique r r' (shows_alike h g)
 
   -- `settle`: one number of passes, one table
-  pub settles_unique : {r r' : Settling} {t t₁ t₂ : List ℕ} → Settles s q r t t₁ → Settles s q r' t t₂ → (r ≡ r') × (t₁ ≡ t₂)
-  settles_unique {r} {r'} (Settles.refused n vs case e same) (Settles.refused n' vs' case' e' same') = (settling_unique r r' (e ∙ sym case ∙ case' ∙ sym e'), same ∙ sym same')
+  pub settles_unique : {r r' : Result ℕ Refused} {t t₁ t₂ : List ℕ} → Settles s q r t t₁ → Settles s q r' t t₂ → (r ≡ r') × (t₁ ≡ t₂)
+  settles_unique {r} {r'} (Settles.refused n vs case e same) (Settles.refused n' vs' case' e' same') = (answered_as_unique r r' (e ∙ sym case ∙ case' ∙ sym e'), same ∙ sym same')
   settles_unique (Settles.refused n vs case e same) (Settles.settled case' N held e') = absurd (gives_not_refuses (sym case' ∙ case))
   settles_unique (Settles.settled case N held e) (Settles.refused n vs case' e' same) = absurd (gives_not_refuses (sym case ∙ case'))
   settles_unique {r} {r'} {t₁ = t₁} {t₂} (Settles.settled case N held e) (Settles.settled case' N' held' e') =
       let same = count_unique held.count held'.count in
-      (settling_unique r r' (e ∙ ap gives same ∙ sym e'), same_parts t₁ t₂ (held.row ∙ rw same refl ∙ sym held'.row) (held.beyond ∙ sym held'.beyond))
+      (answered_as_unique r r' (e ∙ ap gives same ∙ sym e'), same_parts t₁ t₂ (held.row ∙ rw same refl ∙ sym held'.row) (held.beyond ∙ sym held'.beyond))
 
 -- a refusal gives no yes or no
 not_shown : {s : List ℕ} {q : Request} {b : Bool} {n : ℕ} {vs : List ℕ} → first_of (file_cases s ++ request_cases q) (count_of s) ≡ refuses n vs → Shows s q (gives b) → ⊥
@@ -158,11 +156,11 @@ not_shown case (Shows.yes case' ch leads e) = gives_not_refuses (sym case' ∙ c
 not_shown case (Shows.no case' none e) = gives_not_refuses (sym case' ∙ case)
 
 -- `stock`: one list
-pub stocks_unique : {s : List ℕ} {owner at : ℕ} (r r' : StockList) → Stocks s owner at r → Stocks s owner at r' → (r.answer ≡ r'.answer) × (r.keys ≡ r'.keys)
-stocks_unique r r' (Stocks.refused n vs case e none) (Stocks.refused n' vs' case' e' none') =
-    (stocked_unique r.answer r'.answer _ _ (e ∙ ap (λ x. refuses x.number []) (same_refusal (sym case ∙ case')) ∙ sym e'), none ∙ sym none')
-stocks_unique r r' (Stocks.refused n vs case e none) (Stocks.given shown each long e') = absurd (not_shown case (each 0 (omega arith)))
-stocks_unique r r' (Stocks.given shown each long e) (Stocks.refused n vs case e' none) = absurd (not_shown case (each 0 (omega arith)))
+pub stocks_unique : {s : List ℕ} {owner at : ℕ} (r r' : Result (List Bool) ℕ) → Stocks s owner at r → Stocks s owner at r' → r ≡ r'
+stocks_unique r r' (Stocks.refused n vs case e) (Stocks.refused n' vs' case' e') =
+    shown_unique r r' (e ∙ ap (λ x. refuses x.number []) (same_refusal (sym case ∙ case')) ∙ sym e')
+stocks_unique r r' (Stocks.refused n vs case e) (Stocks.given shown each long e') = absurd (not_shown case (each 0 (omega arith)))
+stocks_unique r r' (Stocks.given shown each long e) (Stocks.refused n vs case e') = absurd (not_shown case (each 0 (omega arith)))
 stocks_unique r r' (Stocks.given shown each long e) (Stocks.given shown' each' long' e') =
     let same = ext_get_or false shown shown' (long ∙ sym long') (λ k low. gives_injective (shows_alike (each k (omega arith)) (each' k (omega arith)))) in
-    (stocked_unique r.answer r'.answer _ _ (e ∙ ap gives same ∙ sym e'), stocked_given r.answer _ _ e ∙ same ∙ sym (stocked_given r'.answer _ _ e'))
+    shown_unique r r' (e ∙ ap gives same ∙ sym e')

@@ -1,5 +1,5 @@
 -- The question: its refusals, its answers and what the lent places then hold, in terms of chains: document 01, "Entries and passes" and "What comes back".
-use Rattle.std.specs.Prelude.{◌≡◌, Bool, true, false, List, [], ◌∷◌, ◌++◌, ℕ, ◌<◌, ◌≤◌, leb, ltb, eqb, length, get_or, take, drop, replicate}
+use Rattle.std.specs.Prelude.{◌≡◌, Bool, true, false, List, [], ◌∷◌, ◌++◌, ℕ, ◌<◌, ◌≤◌, leb, ltb, eqb, length, get_or, take, drop, replicate, Result, Ok, Err}
 use Rattle.std.proofs.lemmas.List.Edits.{sets}
 use Rattle.wac.specs.Limits.{keys, all_rights, entries, chain_places}
 use Rattle.wac.specs.Answers.{Answer, gives, refuses, Case, ◌if◌, first_of, number_of, values_of}
@@ -17,15 +17,6 @@ use Rattle.decision.specs.declared.request.Request.{Request}
 use Rattle.decision.specs.declared.lens.Lens.TheVariants.{Minutes}
 use Rattle.decision.specs.declared.question.Refused.{Refused}
 use Rattle.decision.specs.declared.question.Refused.TheVariants.{File, Keys, Rights, Minute, Places}
-use Rattle.decision.specs.declared.question.Admitted.{Admitted}
-use Rattle.decision.specs.declared.question.Admitted.TheVariants as admits
-use Rattle.decision.specs.declared.question.Shown.{Shown}
-use Rattle.decision.specs.declared.question.Shown.TheVariants as shows
-use Rattle.decision.specs.declared.question.StockList.{StockList}
-use Rattle.decision.specs.declared.question.Stocked.{Stocked}
-use Rattle.decision.specs.declared.question.Stocked.TheVariants as stocks
-use Rattle.decision.specs.declared.question.Settling.{Settling}
-use Rattle.decision.specs.declared.question.Settling.TheVariants as settlings
 use Rattle.decision.specs.declared.question.Verdict.{Verdict}
 use Rattle.decision.specs.declared.question.Verdict.TheVariants as verdicts
 
@@ -59,14 +50,14 @@ refusal_values Places = []
 abbrev pub refused_as : {A : Type 0} → Refused → Answer A
 refused_as why = refuses (refusal_number why) (refusal_values why)
 
--- what being in order comes back as
-abbrev pub admitted_as : Admitted → Answer ℕ
-admitted_as (admits.Count n) = gives n
-admitted_as (admits.Refused why) = refused_as why
+-- what a call comes back as: its value, or its refusal
+abbrev pub answered_as : {A : Type 0} → Result A Refused → Answer A
+answered_as (Ok a) = gives a
+answered_as (Err why) = refused_as why
 
 -- r is whether the file and the request are in order: the file's refusals first
-abbrev pub Admits : List ℕ → Request → Admitted → Type 0
-Admits s q r = admitted_as r ≡ first_of (file_cases s ++ request_cases q) (count_of s)
+abbrev pub Admits : List ℕ → Request → Result ℕ Refused → Type 0
+Admits s q r = answered_as r ≡ first_of (file_cases s ++ request_cases q) (count_of s)
 
 -- the request that a question's numbers make
 abbrev pub request_of : ℕ → ℕ → ℕ → ℕ → Request
@@ -94,11 +85,11 @@ abbrev pub reply : ℕ → List ℕ → Reply
 reply number values = record { number = number; values = values }
 
 -- the number and the values of each verdict
-abbrev pub reply_of : Verdict → Reply
-reply_of (verdicts.Granted minute steps passes) = reply 0 (minute ∷ steps ∷ passes ∷ [])
-reply_of (verdicts.NoChain passes) = reply 1 (passes ∷ [])
-reply_of (verdicts.GrantedLong minute passes) = reply 2 (minute ∷ passes ∷ [])
-reply_of (verdicts.Refused why) = reply (refusal_number why) (refusal_values why)
+abbrev pub reply_of : Result Verdict Refused → Reply
+reply_of (Ok (verdicts.Granted minute steps passes)) = reply 0 (minute ∷ steps ∷ passes ∷ [])
+reply_of (Ok (verdicts.NoChain passes)) = reply 1 (passes ∷ [])
+reply_of (Ok (verdicts.GrantedLong minute passes)) = reply 2 (minute ∷ passes ∷ [])
+reply_of (Err why) = reply (refusal_number why) (refusal_values why)
 
 -- the minutes' places after an answer 0, 1 or 2: those of the last of N passes; places beyond stay
 pub record MinutesHeld (s : List ℕ) (q : Request) (N : ℕ) (minutes minutes' : List ℕ) : Type 0 where
@@ -122,14 +113,14 @@ pub record ShortestBest (s : List ℕ) (q : Request) (W n : ℕ) (ch : List ℕ)
 
 -- granted until W by a question of N passes: 0 and a shortest best chain is written, other places stay; or 2 and every
 -- place stays
-pub data Counted (s : List ℕ) (q : Request) (W N : ℕ) (r : Verdict) (steps steps' chain chain' : List ℕ) : Type 0 where
+pub data Counted (s : List ℕ) (q : Request) (W N : ℕ) (r : Result Verdict Refused) (steps steps' chain chain' : List ℕ) : Type 0 where
   counted : (n : ℕ) (ch : List ℕ) → n ≤ chain_places → ShortestBest s q W n ch → chain' ≡ sets chain 0 ch →
       StepsHeld s q W steps steps' → reply_of r ≡ reply 0 (W ∷ n ∷ N ∷ []) → Counted s q W N r steps steps' chain chain'
   uncountable : Fewest (Weighs (asked q) (rules_of s q) q.owner W) uncounted → chain' ≡ chain →
       StepsHeld s q W steps steps' → reply_of r ≡ reply 2 (W ∷ N ∷ []) → Counted s q W N r steps steps' chain chain'
 
 -- a question in order: granted, W being the latest minute over all chains; or there is no chain, and 1
-pub data Answered (s : List ℕ) (q : Request) (r : Verdict) (minutes minutes' steps steps' chain chain' : List ℕ) : Type 0 where
+pub data Answered (s : List ℕ) (q : Request) (r : Result Verdict Refused) (minutes minutes' steps steps' chain chain' : List ℕ) : Type 0 where
   granted : (W N : ℕ) → (W ≡ 0 → ⊥) → Best (asked q) (rules_of s q) q.owner W → MinutesHeld s q N minutes minutes' →
       Counted s q W N r steps steps' chain chain' → Answered s q r minutes minutes' steps steps' chain chain'
   denied : (N : ℕ) → ((ch : List ℕ) → Chain (rules_of s q) q.owner q.asker ch → ⊥) → MinutesHeld s q N minutes minutes' →
@@ -151,7 +142,7 @@ ask_cases s q minutes steps chain =
     ∷ []
 
 -- the question: refused by the first case that holds, and then every lent place is as it was; or answered
-pub data Judged (s : List ℕ) (q : Request) (r : Verdict) (minutes minutes' steps steps' chain chain' : List ℕ) : Type 0 where
+pub data Judged (s : List ℕ) (q : Request) (r : Result Verdict Refused) (minutes minutes' steps steps' chain chain' : List ℕ) : Type 0 where
   refused : (n : ℕ) (vs : List ℕ) →
       first_of (ask_cases s q (length minutes) (length steps) (length chain)) (count_of s) ≡ refuses n vs →
       reply_of r ≡ reply n vs → minutes' ≡ minutes → steps' ≡ steps → chain' ≡ chain →
@@ -164,11 +155,10 @@ pub data Judged (s : List ℕ) (q : Request) (r : Verdict) (minutes minutes' ste
 abbrev pub refusal_record : Refused → ℕ
 refusal_record why = get_or (refusal_values why) 0 0
 
--- what the read screen comes back as: a yes or no, or the refusal's number alone
-abbrev pub shown_as : Shown → Answer Bool
-shown_as shows.Yes = gives true
-shown_as shows.No = gives false
-shown_as (shows.Refused number) = refuses number []
+-- what the read screen and the stock list come back as: what is shown, or the refusal's number alone
+abbrev pub shown_as : {A : Type 0} → Result A ℕ → Answer A
+shown_as (Ok shown) = gives shown
+shown_as (Err number) = refuses number []
 
 -- the read screen: refused as the question is, and then only the number; yes if there is a chain, no if there is none
 pub data Shows (s : List ℕ) (q : Request) (a : Answer Bool) : Type 0 where
@@ -179,33 +169,23 @@ pub data Shows (s : List ℕ) (q : Request) (a : Answer Bool) : Type 0 where
   no : first_of (file_cases s ++ request_cases q) (count_of s) ≡ gives (count_of s) →
       ((ch : List ℕ) → Chain (rules_of s q) q.owner q.asker ch → ⊥) → a ≡ gives false → Shows s q a
 
--- what the stock list comes back as: a yes or no for each key, or the refusal's number alone
-abbrev pub stocked_as : Stocked → List Bool → Answer (List Bool)
-stocked_as stocks.Given shown = gives shown
-stocked_as (stocks.Refused number) shown = refuses number []
-
--- the stock list: refused as the question is, and then only the number, and all no; or for each key what the read
+-- the stock list: refused as the question is, and then only the number, and no list; or for each key what the read
 -- screen shows
-pub data Stocks (s : List ℕ) (owner at : ℕ) (r : StockList) : Type 0 where
+pub data Stocks (s : List ℕ) (owner at : ℕ) (r : Result (List Bool) ℕ) : Type 0 where
   refused : (n : ℕ) (vs : List ℕ) →
       first_of (file_cases s ++ request_cases (request_of owner 0 2 at)) (count_of s) ≡ refuses n vs →
-      stocked_as r.answer r.keys ≡ refuses n [] → r.keys ≡ replicate keys false → Stocks s owner at r
+      shown_as r ≡ refuses n [] → Stocks s owner at r
   given : (shown : List Bool) → ((k : ℕ) → k < keys → Shows s (request_of owner k 2 at) (gives (get_or shown k false))) →
-      length shown ≡ keys → stocked_as r.answer r.keys ≡ gives shown → Stocks s owner at r
+      length shown ≡ keys → shown_as r ≡ gives shown → Stocks s owner at r
 
 -- the refusals of settling a given table: the file's, the request's, the table's
 unfoldable pub settle_cases : List ℕ → Request → ℕ → List Case
 settle_cases s q table = (file_cases s ++ request_cases q) ++ (23 if ltb table entries) ∷ []
 
--- what settling comes back as: the number of passes, or the refusal
-abbrev pub settling_as : Settling → Answer ℕ
-settling_as (settlings.Passes passes) = gives passes
-settling_as (settlings.Refused why) = refused_as why
-
 -- settling a given table: refused by the first case that holds, and then nothing changes; or the table after the passes
 -- of the definition, up to and including the first that changes nothing
-pub data Settles (s : List ℕ) (q : Request) (r : Settling) (table table' : List ℕ) : Type 0 where
+pub data Settles (s : List ℕ) (q : Request) (r : Result ℕ Refused) (table table' : List ℕ) : Type 0 where
   refused : (n : ℕ) (vs : List ℕ) → first_of (settle_cases s q (length table)) (count_of s) ≡ refuses n vs →
-      settling_as r ≡ refuses n vs → table' ≡ table → Settles s q r table table'
+      answered_as r ≡ refuses n vs → table' ≡ table → Settles s q r table table'
   settled : first_of (settle_cases s q (length table)) (count_of s) ≡ gives (count_of s) →
-      (N : ℕ) → SettledFrom Minutes s q table N table' → settling_as r ≡ gives N → Settles s q r table table'
+      (N : ℕ) → SettledFrom Minutes s q table N table' → answered_as r ≡ gives N → Settles s q r table table'

@@ -14,7 +14,6 @@ mod writing;
 
 pub use entries::{Entry, entry_number};
 pub use question::{
-    Admitted, Refused, Settling, Shown, StockList, Stocked, Verdict, admit, ask, ask_short, may,
-    refusal_number, refusal_record, settle, stock,
+    Refused, Verdict, admit, ask, ask_short, may, refusal_number, refusal_record, settle, stock,
 };
 pub use request::Request;

@@ -1,10 +1,11 @@
 // The question: refusals, the verdict, and what the lent places then hold.
-ghost use Rattle.std.specs.Prelude.{◌≡◌, ◌≤◌, length};
+ghost use Rattle.std.specs.Prelude.{◌≡◌, ◌≤◌, length, Ok};
 ghost use Rattle.wac.specs.Limits.{entries, chain_places};
 ghost use Rattle.wac.specs.Answers.{first_of};
+ghost use Rattle.decision.specs.declared.question.Refused.TheVariants.{File};
 ghost use Rattle.decision.specs.Question.{
   request_cases,
-  admitted_as,
+  answered_as,
   Admits,
   request_of,
   Ready,
@@ -41,7 +42,15 @@ pub enum Refused {
     Places,
 }
 
-// What a question answers.
+impl From<Refusal> for Refused {
+    ghost from_gives = { λ why refused. refused ≡ File why };
+
+    fn from(why: Refusal) -> Refused {
+        Refused::File(why)
+    }
+}
+
+// What a question that is not refused answers.
 #[derive(Clone, Copy)]
 pub enum Verdict {
     // Granted, and a shortest best chain has at most 200 steps: minute, steps, passes.
@@ -50,48 +59,37 @@ pub enum Verdict {
     NoChain(u64),
     // Granted, and every best chain has more than 200 steps: minute, passes.
     GrantedLong(u32, u64),
-    // Refused.
-    Refused(Refused),
 }
 
-// Whether a file and a request are in order: the file's count, or the refusal.
-#[derive(Clone, Copy)]
-pub enum Admitted {
-    Count(usize),
-    Refused(Refused),
-}
-
-// The request's refusals, where the file has this count.
-fn admit_request(request: Request, count: usize) -> Admitted
-    ensures { admitted_as result ≡ first_of (request_cases request) count }
+// The request's refusals.
+fn admit_request(request: Request) -> Result<(), Refused>
+    ensures { answered_as result ≡ first_of (request_cases request) tt }
 {
     if Table::KEYS <= request.owner as usize {
-        return Admitted::Refused(Refused::Keys);
+        return Err(Refused::Keys);
     }
     if Table::KEYS <= request.asker as usize {
-        return Admitted::Refused(Refused::Keys);
+        return Err(Refused::Keys);
     }
     if request.rights == 0 {
-        return Admitted::Refused(Refused::Rights);
+        return Err(Refused::Rights);
     }
     if Table::ALL_RIGHTS < request.rights as usize {
-        return Admitted::Refused(Refused::Rights);
+        return Err(Refused::Rights);
     }
     if request.at == 0 {
-        return Admitted::Refused(Refused::Minute);
+        return Err(Refused::Minute);
     }
-    Admitted::Count(count)
+    Ok(())
 }
 
-// The file's refusals, then the request's.
-pub fn admit(file: &[u8], request: Request) -> Admitted
+// Whether a file and a request are in order, the file's refusals first: the file's count, or the refusal.
+pub fn admit(file: &[u8], request: Request) -> Result<usize, Refused>
     ensures { Admits file.now request result }
 {
-    let checked = wac::check(file);
-    match checked {
-        Ok(count) => admit_request(request, count),
-        Err(why) => Admitted::Refused(Refused::File(why)),
-    }
+    let count = wac::check(file)?;
+    admit_request(request)?;
+    Ok(count)
 }
 
 // The steps of a granted question, and its chain: the verdict.
@@ -105,7 +103,7 @@ fn judge_steps(
     chain: &mut [u8],
 ) -> Verdict
     requires { Granting file.now request count minute × (length steps.old ≡ entries) × (chain_places ≤ length chain.old) }
-    ensures { Counted file.now request minute passes result steps.old steps.new chain.old chain.new }
+    ensures { Counted file.now request minute passes (Ok result) steps.old steps.new chain.old chain.new }
 {
     let lens = Lens::Steps(minute);
     let entry = Entry {
@@ -133,7 +131,7 @@ fn judge(
     chain: &mut [u8],
 ) -> Verdict
     requires { Ready file.now request count × (length minutes.old ≡ entries) × (length steps.old ≡ entries) × (chain_places ≤ length chain.old) }
-    ensures { Answered file.now request result minutes.old minutes.new steps.old steps.new chain.old chain.new }
+    ensures { Answered file.now request (Ok result) minutes.old minutes.new steps.old steps.new chain.old chain.new }
 {
     let lens = Lens::Minutes;
     passing::start_by(lens, request.asker as usize, minutes);
@@ -154,45 +152,32 @@ fn judge(
 // The question. Any bytes and any numbers; a refused call leaves every lent place as it was.
 pub fn ask(
     file: &[u8],
-    owner: u8,
-    asker: u8,
-    rights: u8,
-    at: u32,
+    request: Request,
     minutes: &mut [u32],
     steps: &mut [u32],
     chain: &mut [u8],
-) -> Verdict
-    ensures { Judged file.now (request_of owner asker rights at) result minutes.old minutes.new steps.old steps.new chain.old chain.new }
+) -> Result<Verdict, Refused>
+    ensures { Judged file.now request result minutes.old minutes.new steps.old steps.new chain.old chain.new }
 {
-    let request = Request {
-        owner: owner,
-        asker: asker,
-        rights: rights,
-        at: at,
-    };
-    let admitted = admit(file, request);
-    match admitted {
-        Admitted::Refused(why) => Verdict::Refused(why),
-        Admitted::Count(count) => {
-            if minutes.len() < Table::ENTRIES {
-                return Verdict::Refused(Refused::Places);
-            }
-            if steps.len() < Table::ENTRIES {
-                return Verdict::Refused(Refused::Places);
-            }
-            if chain.len() < Table::CHAIN_PLACES {
-                return Verdict::Refused(Refused::Places);
-            }
-            judge(
-                file,
-                request,
-                count,
-                &mut minutes[..Table::ENTRIES],
-                &mut steps[..Table::ENTRIES],
-                chain,
-            )
-        }
+    let count = admit(file, request)?;
+    if minutes.len() < Table::ENTRIES {
+        return Err(Refused::Places);
     }
+    if steps.len() < Table::ENTRIES {
+        return Err(Refused::Places);
+    }
+    if chain.len() < Table::CHAIN_PLACES {
+        return Err(Refused::Places);
+    }
+    let verdict = judge(
+        file,
+        request,
+        count,
+        &mut minutes[..Table::ENTRIES],
+        &mut steps[..Table::ENTRIES],
+        chain,
+    );
+    Ok(verdict)
 }
 
 // The short form names no rights and asks to open.
@@ -204,98 +189,56 @@ pub fn ask_short(
     minutes: &mut [u32],
     steps: &mut [u32],
     chain: &mut [u8],
-) -> Verdict
+) -> Result<Verdict, Refused>
     ensures { Judged file.now (request_of owner asker 2 at) result minutes.old minutes.new steps.old steps.new chain.old chain.new }
 {
-    ask(file, owner, asker, 2, at, minutes, steps, chain)
+    let request = Request {
+        owner,
+        asker,
+        rights: 2,
+        at,
+    };
+    ask(file, request, minutes, steps, chain)
 }
 
-// What the read screen shows; a refusal's number alone.
-#[derive(Clone, Copy)]
-pub enum Shown {
-    Yes,
-    No,
-    Refused(u8),
-}
-
-// The read screen: a yes or no for one asker, by the short form. Yes is answer 0 or 2.
-pub fn may(file: &[u8], owner: u8, asker: u8, at: u32) -> Shown
+// The read screen: a yes or no for one asker, by the short form. Yes is answer 0 or 2. A refusal is told
+// by its number alone (`Shows`), so it is no `Refused`, which may have a record.
+pub fn may(file: &[u8], owner: u8, asker: u8, at: u32) -> Result<bool, u8>
     ensures { Shows file.now (request_of owner asker 2 at) (shown_as result) }
 {
     let mut minutes = [0u32; Table::ENTRIES];
     let mut steps = [0u32; Table::ENTRIES];
     let mut chain = [0u8; Table::CHAIN_PLACES];
-    let verdict = ask_short(file, owner, asker, at, &mut minutes, &mut steps, &mut chain);
-    match verdict {
-        Verdict::Granted(_, _, _) => Shown::Yes,
-        Verdict::NoChain(_) => Shown::No,
-        Verdict::GrantedLong(_, _) => Shown::Yes,
-        Verdict::Refused(why) => Shown::Refused(refusal_number(why)),
+    match ask_short(file, owner, asker, at, &mut minutes, &mut steps, &mut chain) {
+        Ok(Verdict::Granted(_, _, _)) => Ok(true),
+        Ok(Verdict::NoChain(_)) => Ok(false),
+        Ok(Verdict::GrantedLong(_, _)) => Ok(true),
+        Err(why) => Err(refusal_number(why)),
     }
 }
 
-// Whether the stock list is given; a refusal's number alone.
-#[derive(Clone, Copy)]
-pub enum Stocked {
-    Given,
-    Refused(u8),
-}
-
-// The stock list: a yes or no for each of the 16 keys, all no where it is refused.
-#[derive(Clone, Copy)]
-pub struct StockList {
-    pub answer: Stocked,
-    pub keys: [bool; Table::KEYS],
-}
-
-// The stock list of an owner at a minute, by the short form.
-pub fn stock(file: &[u8], owner: u8, at: u32) -> StockList
+// The stock list of an owner at a minute, by the short form: a yes or no for each of the 16 keys, or the
+// refusal's number, as the read screen tells it.
+pub fn stock(file: &[u8], owner: u8, at: u32) -> Result<[bool; Table::KEYS], u8>
     ensures { Stocks file.now owner at result }
 {
     let mut keys = [false; Table::KEYS];
     for key in 0..Table::KEYS {
-        let shown = may(file, owner, (key % 256) as u8, at);
-        match shown {
-            Shown::Yes => {
-                keys[key] = true;
-            }
-            Shown::No => {}
-            Shown::Refused(number) => {
-                return StockList {
-                    answer: Stocked::Refused(number),
-                    keys: [false; Table::KEYS],
-                };
-            }
-        }
+        keys[key] = may(file, owner, key as u8, at)?;
     }
-    StockList {
-        answer: Stocked::Given,
-        keys: keys,
-    }
+    Ok(keys)
 }
 
-// What settling a given table answers: the number of passes, or the refusal.
-#[derive(Clone, Copy)]
-pub enum Settling {
-    Passes(u64),
-    Refused(Refused),
-}
-
-// Passes over a given table of minutes until nothing changes, from any numbers in it.
-pub fn settle(file: &[u8], request: Request, table: &mut [u32]) -> Settling
+// Passes over a given table of minutes until nothing changes, from any numbers in it: their number, or the
+// refusal.
+pub fn settle(file: &[u8], request: Request, table: &mut [u32]) -> Result<u64, Refused>
     ensures { Settles file.now request result table.old table.new }
 {
-    let admitted = admit(file, request);
-    match admitted {
-        Admitted::Refused(why) => Settling::Refused(why),
-        Admitted::Count(count) => {
-            if table.len() < Table::ENTRIES {
-                return Settling::Refused(Refused::Places);
-            }
-            let passes = passing::settle_by(Lens::Minutes, file, request, count, table);
-            Settling::Passes(passes)
-        }
+    let count = admit(file, request)?;
+    if table.len() < Table::ENTRIES {
+        return Err(Refused::Places);
     }
+    Ok(passing::settle_by(Lens::Minutes, file, request, count, table))
 }
 
 // The refusal's number.
@@ -317,9 +260,6 @@ pub fn refusal_record(why: Refused) -> usize
 {
     match why {
         Refused::File(file) => wac::record_of(file),
-        Refused::Keys => 0,
-        Refused::Rights => 0,
-        Refused::Minute => 0,
-        Refused::Places => 0,
+        _ => 0,
     }
 }

@@ -1,5 +1,5 @@
 -- `fill` meets its contract: the part that is filled, and what is beyond it.
-use Rattle.std.proofs.Common.{◌≡◌, ◌∙◌, length, drop, replicate, arith, ap}
+use Rattle.std.proofs.Common.{◌≡◌, ◌∙◌, drop, replicate, ap}
 use Rattle.std.proofs.lemmas.List.{take_at, drop_at, length-take-le}
 use Rattle.decision.proofs.passing.fill.Goals as goal
 

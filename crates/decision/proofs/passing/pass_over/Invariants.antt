@@ -1,5 +1,4 @@
 -- `pass_over` meets its contract. The loop's invariant: the certificates below `i` are tried over the old table. The measure is what is left of the count.
-use Prim.Native.Nat.{◌≤◌, ◌-◌}
 use Rattle.decision.proofs.PassingLaws.{Passing}
 use Rattle.decision.proofs.passing.pass_over.Given as goal
 

@@ -1,10 +1,7 @@
 -- `settle_by` meets its contract. The loop's invariant: the table is that of as many passes as were counted, each of which changed something. The measure is what is left of the first table's ranks.
-use mathlib.Core.Path.{◌≡◌}
 use Prim.Native.Nat.{◌-◌}
-use lib.ListN.{length}
 use Rattle.decision.specs.Engine.{held}
 use Rattle.decision.specs.Lens.{question_by}
-use Rattle.wac.specs.Limits.{entries}
 use Rattle.decision.proofs.SettlingLaws.{Going}
 use Rattle.rewriting.proofs.Settling.{ranks}
 use Rattle.decision.proofs.passing.settle_by.Given as goal

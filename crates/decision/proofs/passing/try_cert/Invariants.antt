@@ -1,5 +1,5 @@
 -- `try_cert` meets its contract. The loop's invariant: the certificate is tried at its entries that arrive below `place`. The measure is what is left.
-use Prim.Native.Nat.{◌≤◌, ◌-◌}
+use Prim.Native.Nat.{◌≤◌}
 use mathlib.Core.Path.{◌≡◌}
 use Rattle.decision.specs.Table.{arrivals_of}
 use Rattle.decision.proofs.PassingLaws.{Trying}

@@ -1,39 +1,30 @@
 -- `settle` meets its contract: refused before any place is written; else the passes of the definition.
-use mathlib.Core.Path.{refl, sym, ap, ◌∙◌}
+use mathlib.Core.Path.{refl, sym}
 use lib.ListN.{length}
-use Rattle.decision.specs.Question.{admitted_as, Settles.refused, Settles.settled}
+use borrow.Author.Rules.{rules}
+use Rattle.std.proofs.lemmas.Result.{err_from_is_err_and}
+use Rattle.decision.specs.Question.{Settles.refused, Settles.settled}
 use Rattle.decision.proofs.AskLaws.{admitted_ready, settle_refused, few_places, settle_given, minutes_within}
 use Rattle.decision.proofs.question.settle.Goals as goal
+
+pub returns-in_err-count : goal.returns-in_err-count
+returns-in_err-count c =
+    let args = c.args in
+    let exit = err_from_is_err_and c.from_residual.result c.from_residual.ensures.1 in
+    rw (exit.1, exit.2) (refused _ _ (settle_refused args.file.now args.request (length args.table.now) _ (sym c.in_err-count.ensures)) refl refl)
 
 pub returns-then-table-lt-ENTRIES : goal.returns-then-table-lt-ENTRIES
 returns-then-table-lt-ENTRIES c =
     let args = c.args in
-    let s = args.file.now in
-    let q = args.request in
-    let given = sym c.admit-admitted.ensures ∙ ap admitted_as c.in-Count.is in
-    refused _ _ (few_places s q (length args.table.now) given c.if-table-lt-ENTRIES.true) refl refl
+    refused _ _ (few_places args.file.now args.request (length args.table.now) (sym c.in_ok-count.ensures) c.if-table-lt-ENTRIES.true) refl refl
 
-pub settle_by-passes-requires : goal.settle_by-passes-requires
-settle_by-passes-requires c =
+pub settle_by-requires : goal.settle_by-requires
+settle_by-requires c =
     let args = c.args in
-    let s = args.file.now in
-    let q = args.request in
-    let given = sym c.admit-admitted.ensures ∙ ap admitted_as c.in-Count.is in
-    let ready = admitted_ready s q given in
-    (ready.accepted, ready.counted, ready.asker, minutes_within _ c.if-table-lt-ENTRIES.false (λ i. (c.slice_known-1.given i).fits))
+    let ready = admitted_ready args.file.now args.request (sym c.in_ok-count.ensures) in
+    (ready.accepted, ready.counted, ready.asker, minutes_within _ c.if-table-lt-ENTRIES.false (λ i. search rules))
 
-pub returns-in-Refused : goal.returns-in-Refused
-returns-in-Refused c =
+pub returns : goal.returns
+returns c =
     let args = c.args in
-    let s = args.file.now in
-    let q = args.request in
-    let given = sym c.admit-admitted.ensures ∙ ap admitted_as c.in-Refused.is in
-    refused _ _ (settle_refused s q (length args.table.now) c.in-Refused.why given) refl refl
-
-pub returns-else-table-lt-ENTRIES : goal.returns-else-table-lt-ENTRIES
-returns-else-table-lt-ENTRIES c =
-    let args = c.args in
-    let s = args.file.now in
-    let q = args.request in
-    let given = sym c.admit-admitted.ensures ∙ ap admitted_as c.in-Count.is in
-    settled (settle_given s q (length args.table.now) given c.if-table-lt-ENTRIES.false) _ c.settle_by-passes.ensures refl
+    settled (settle_given args.file.now args.request (length args.table.now) (sym c.in_ok-count.ensures) c.if-table-lt-ENTRIES.false) _ c.settle_by.ensures refl

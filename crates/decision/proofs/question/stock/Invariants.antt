@@ -1,10 +1,6 @@
 -- `stock` meets its contract: the read screen for each key, or the refusal of the first.
-use Prim.Native.Nat.{◌-◌}
 use Rattle.decision.proofs.AskLaws.{Stocking}
 use Rattle.decision.proofs.question.stock.Given as goal
 
 abbrev pub invariant-loop-key : goal.invariant-loop-key
 invariant-loop-key l = Stocking l.file l.owner l.at l.key l.keys
-
-abbrev pub decreases-loop-key : goal.decreases-loop-key
-decreases-loop-key l = 16 - l.key

@@ -1,7 +1,7 @@
 -- `read_from` and `search_from` meet their contracts. The measure is twice the symbols left, and one more where they are not searched yet.
 -- The invariant of the loop: `best` is the best of what the places passed give.
 use mathlib.Core.Path.{◌≡◌}
-use Prim.Native.Nat.{◌+◌, ◌-◌, ◌*◌, ◌≤◌}
+use Prim.Native.Nat.{◌+◌, ◌-◌, ◌*◌}
 use lib.ListN.{length}
 use Rattle.decision.specs.Usable.{symbols_of}
 use Rattle.decision.specs.Lens.{weighing_of, question_by}

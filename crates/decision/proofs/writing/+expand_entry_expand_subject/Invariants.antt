@@ -1,6 +1,6 @@
 -- `expand_entry` and `expand_subject` meet their contracts. The measure is twice the steps to be written, and one more for a subject.
 -- The invariant of the loop: the symbols passed are read by what is written, and the steps of the others are left.
-use Prim.Native.Nat.{◌+◌, ◌-◌, ◌*◌}
+use Prim.Native.Nat.{◌+◌, ◌*◌}
 use Rattle.decision.specs.Writing.{steps_at, steps_read}
 use Rattle.decision.proofs.WritingLaws.{Part}
 use Rattle.decision.proofs.writing.+expand_entry_expand_subject.Given as goal

@@ -1,5 +1,5 @@
 -- `brings_by` meets its contract: the certificate fetched is the file's of that number, and the tests are the definition's.
-use Rattle.std.proofs.Common.{◌≡◌, ◌∙◌, sym, arith, cond, Bool, true, false, ◌&&◌, eqb}
+use Rattle.std.proofs.Common.{arith}
 use Rattle.std.proofs.lemmas.Grind.{common_steps}
 use Rattle.decision.proofs.FetchLaws.{fetched_lawful, fetched_same, fetched_refused}
 use Rattle.decision.proofs.WritingLaws.{read_fits, brings_tests}

@@ -1,7 +1,7 @@
 -- `find_cert` meets its contract. The invariant: no certificate passed brings the entry about. The measure is what is left of the file.
 use mathlib.Core.Bool.{false}
 use mathlib.Core.Path.{◌≡◌}
-use Prim.Native.Nat.{ℕ, ◌<◌, ◌≤◌, ◌-◌}
+use Prim.Native.Nat.{ℕ, ◌<◌}
 use Rattle.decision.specs.Writing.{brings}
 use Rattle.decision.proofs.writing.find_cert.Given as goal
 
