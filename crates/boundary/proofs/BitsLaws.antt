@@ -4,6 +4,7 @@ use mathlib.Core.List.{List}
 use mathlib.Core.Path.{◌≡◌, refl, sym, ap, ◌∙◌, subst}
 use Prim.Native.Nat.{ℕ, zero, suc, ◌+◌, ◌*◌, ◌-◌, ◌≤◌, ◌<◌}
 use native.Mathlib.Omega.{arith}
+use mir.Val.{bool_byte}
 use lib.ListN.{get_or}
 use Rattle.boundary.specs.Questions.{bits}
 
@@ -20,6 +21,11 @@ one_le_power (suc n) = let here : power (suc n) ≡ 2 * power n = refl in omega 
 pub bit_le_one : (b : Bool) → cond b 1 0 ≤ 1
 bit_le_one true = omega arith
 bit_le_one false = omega arith
+
+-- a yes or no as a number
+pub bit_of : (b : Bool) → bool_byte b ≡ cond b 1 0
+bit_of true = refl
+bit_of false = refl
 
 -- no places
 pub bits_none : (places : List Bool) (k : ℕ) → bits places k 0 ≡ 0

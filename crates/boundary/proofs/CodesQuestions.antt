@@ -5,6 +5,7 @@ use mathlib.Core.List.{[], ◌∷◌}
 use Prim.Native.Nat.{ℕ, ◌<◌, ◌≤◌}
 use native.Mathlib.Omega.{arith}
 use lib.Dec.{eqb}
+use Rattle.std.specs.Prelude.{Result, Ok, Err}
 use Rattle.wac.specs.Limits.{without_end}
 use Rattle.wac.specs.declared.refusal.Refusal.TheVariants.{Short, NotWac, Version, TooMany, Length, Against, Room, NoSuch}
 use Rattle.decision.specs.Question.{Reply, reply, reply_of, refusal_number, refusal_values, refusal_record}
@@ -33,7 +34,7 @@ built number steps passes minute =
 
 -- a refusal's code, and the reply that is built of its parts
 pub record Told (why : Refused) : Type 0 where
-  pub coded : verdict_code (verdicts.Refused why) ≡ wide_code (refusal_number why) 0 0 (refusal_record why)
+  pub coded : verdict_code (Err why) ≡ wide_code (refusal_number why) 0 0 (refusal_record why)
   pub back : built (refusal_number why) 0 0 (refusal_record why) ≡ reply (refusal_number why) (refusal_values why)
 
 pub refused_told : (why : Refused) → Told why
@@ -52,19 +53,19 @@ refused_told Minute = record { coded = refl; back = refl }
 refused_told Places = record { coded = refl; back = refl }
 
 -- the parts of a verdict's code, each with room enough: number, steps, passes, minute
-data Parts (r : Verdict) : Type 0 where
+data Parts (r : Result Verdict Refused) : Type 0 where
   laid : (a n p m : ℕ) → n < 256 → p < 65536 → m ≤ without_end → verdict_code r ≡ wide_code a n p m → built a n p m ≡ reply_of r → Parts r
 
-parts : (r : Verdict) → Bounded r → Parts r
+parts : (r : Result Verdict Refused) → Bounded r → Parts r
 unfolding built
-parts (verdicts.Granted minute steps passes) (low, short, few) = laid 0 steps passes minute (omega arith) (omega arith) low refl refl
-parts (verdicts.NoChain passes) few = laid 1 0 passes 0 (omega arith) (omega arith) (omega arith) refl refl
-parts (verdicts.GrantedLong minute passes) (low, few) = laid 2 0 passes minute (omega arith) (omega arith) low refl refl
-parts (verdicts.Refused why) low =
+parts (Ok (verdicts.Granted minute steps passes)) (low, short, few) = laid 0 steps passes minute (omega arith) (omega arith) low refl refl
+parts (Ok (verdicts.NoChain passes)) few = laid 1 0 passes 0 (omega arith) (omega arith) (omega arith) refl refl
+parts (Ok (verdicts.GrantedLong minute passes)) (low, few) = laid 2 0 passes minute (omega arith) (omega arith) low refl refl
+parts (Err why) low =
     laid (refusal_number why) 0 0 (refusal_record why) (omega arith) (omega arith) (omega arith) (refused_told why).coded (refused_told why).back
 
 -- verdicts within their bounds with one code have one reply
-pub verdict_apart : (r r' : Verdict) → Bounded r → Bounded r' → verdict_code r ≡ verdict_code r' → reply_of r ≡ reply_of r'
+pub verdict_apart : (r r' : Result Verdict Refused) → Bounded r → Bounded r' → verdict_code r ≡ verdict_code r' → reply_of r ≡ reply_of r'
 verdict_apart r r' low low' e = turn (parts r low) (parts r' low')
   where
     turn : Parts r → Parts r' → reply_of r ≡ reply_of r'

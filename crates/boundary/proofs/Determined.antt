@@ -7,14 +7,13 @@ use native.Mathlib.Omega.{arith}
 use native.Mathlib.Nat.{zero-add}
 use lib.ListN.{length, get_or}
 use lib.Seq.{ext_get_or}
+use Rattle.std.specs.Prelude.{Result, Ok, Err}
 use Rattle.wac.specs.Limits.{keys, without_end}
 use Rattle.wac.specs.Bytes.{AreBytes}
 use Rattle.wac.specs.Answers.{Answer, gives, refuses}
-use Rattle.decision.specs.Question.{reply, reply_of, refusal_number, refusal_values, refusal_record, request_of, shown_as, stocked_as, settling_as, Shows, Stocks}
+use Rattle.decision.specs.Question.{reply, reply_of, refusal_number, refusal_values, refusal_record, request_of, shown_as, answered_as, Shows, Stocks}
 use Rattle.decision.specs.declared.request.Request.{Request}
-use Rattle.decision.specs.declared.question.StockList.{StockList}
-use Rattle.decision.specs.declared.question.Settling.{Settling}
-use Rattle.decision.specs.declared.question.Settling.TheVariants as settlings
+use Rattle.decision.specs.declared.question.Refused.{Refused}
 use Rattle.decision.proofs.Replies.{number_from}
 use Rattle.decision.proofs.Refusals.{admit_proper}
 use Rattle.decision.proofs.Bounds.{BoundedSettling, judged_passes, settles_passes}
@@ -30,13 +29,13 @@ ask_determined bytes bytes' h g =
     verdict_apart h.verdict g.verdict (judged_passes bytes h.judged) (judged_passes bytes' g.judged) (sym h.answer ∙ g.answer)
 
 -- settlings within their bounds with one code come back as one answer
-settling_apart : (r r' : Settling) → BoundedSettling r → BoundedSettling r' → settling_code (settling_as r) ≡ settling_code (settling_as r') → settling_as r ≡ settling_as r'
-settling_apart (settlings.Passes N) (settlings.Passes N') low low' e = ap gives (long_apart {a = 0} {a' = 0} {v = N} {v' = N'} (omega arith) (omega arith) e).1
-settling_apart (settlings.Passes N) (settlings.Refused why) low low' e =
+settling_apart : (r r' : Result ℕ Refused) → BoundedSettling r → BoundedSettling r' → settling_code (answered_as r) ≡ settling_code (answered_as r') → answered_as r ≡ answered_as r'
+settling_apart (Ok N) (Ok N') low low' e = ap gives (long_apart {a = 0} {a' = 0} {v = N} {v' = N'} (omega arith) (omega arith) e).1
+settling_apart (Ok N) (Err why) low low' e =
     let same = (long_apart {a = 0} {a' = refusal_number why} {v = N} {v' = refusal_record why} (omega arith) (omega arith) e).0 in absurd (omega (arith, number_from why))
-settling_apart (settlings.Refused why) (settlings.Passes N) low low' e =
+settling_apart (Err why) (Ok N) low low' e =
     let same = (long_apart {a = refusal_number why} {a' = 0} {v = refusal_record why} {v' = N} (omega arith) (omega arith) e).0 in absurd (omega (arith, number_from why))
-settling_apart (settlings.Refused why) (settlings.Refused why') low low' e =
+settling_apart (Err why) (Err why') low low' e =
     let same = long_apart {a = refusal_number why} {a' = refusal_number why'} {v = refusal_record why} {v' = refusal_record why'} (omega arith) (omega arith) e in
     let x : reply (refusal_number why) (refusal_values why) ≡ reply (refusal_number why') (refusal_values why') =
     sym (refused_told why).back
@@ -48,7 +47,7 @@ settling_apart (settlings.Refused why) (settlings.Refused why') low low' e =
 -- `decision_settle`: one code, one answer
 pub settle_determined : {s s' : List ℕ} {q q' : Request} {r : ℕ} {t t₁ t' t₁' : List ℕ} → AreBytes s → AreBytes s' →
     ((i : ℕ) → get_or t i 0 ≤ without_end) → ((i : ℕ) → get_or t' i 0 ≤ without_end) →
-    (h : SettleCoded s q r t t₁) (g : SettleCoded s' q' r t' t₁') → settling_as h.settling ≡ settling_as g.settling
+    (h : SettleCoded s q r t t₁) (g : SettleCoded s' q' r t' t₁') → answered_as h.settling ≡ answered_as g.settling
 settle_determined bytes bytes' fits fits' h g =
     settling_apart h.settling g.settling (settles_passes bytes fits h.settled) (settles_passes bytes' fits' g.settled) (sym h.answer ∙ g.answer)
 
@@ -83,8 +82,8 @@ may_determined h g =
 abbrev EachKey : List Bool → Type 0
 EachKey shown = length shown ≡ keys
 
-stock_lone : {s : List ℕ} {owner at : ℕ} (r : StockList) → Stocks s owner at r → Lone EachKey (stocked_as r.answer r.keys)
-stock_lone {s} {owner} {at} r (Stocks.refused n vs case e none) = refused n (admit_proper s (request_of owner 0 2 at) case).from e
+stock_lone : {s : List ℕ} {owner at : ℕ} (r : Result (List Bool) ℕ) → Stocks s owner at r → Lone EachKey (shown_as r)
+stock_lone {s} {owner} {at} r (Stocks.refused n vs case e) = refused n (admit_proper s (request_of owner 0 2 at) case).from e
 stock_lone r (Stocks.given shown each long e) = told shown long e
 
 stock_apart : (l l' : List Bool) → EachKey l → EachKey l' → bits l 0 keys ≡ bits l' 0 keys → l ≡ l'
@@ -92,7 +91,7 @@ stock_apart l l' long long' e = ext_get_or false l l' (long ∙ sym long') (λ i
 
 -- `decision_stock`: one code, one answer
 pub stock_determined : {s s' : List ℕ} {owner owner' at at' r : ℕ} (h : StockCoded s owner at r) (g : StockCoded s' owner' at' r) →
-    stocked_as h.list.answer h.list.keys ≡ stocked_as g.list.answer g.list.keys
+    shown_as h.list ≡ shown_as g.list
 stock_determined h g =
     lone_apart EachKey (λ l. bits l 0 keys) (λ l long. bits_whole l 0 keys (omega arith)) stock_apart _ _
     (stock_lone h.list h.judged) (stock_lone g.list g.judged) (sym h.answer ∙ g.answer)

@@ -4,7 +4,7 @@ use mathlib.Core.List.{List}
 use Prim.Native.Nat.{ℕ}
 use Rattle.boundary.specs.Questions.{verdict_code, shown_code, stocked_code, settling_code, AskCoded, MayCoded, StockCoded, SettleCoded}
 use Rattle.decision.specs.declared.request.Request.{Request}
-use Rattle.decision.specs.Question.{reply_of, stocked_as, settling_as}
+use Rattle.decision.specs.Question.{reply_of, shown_as, answered_as}
 use Rattle.decision.proofs.Unique.{ChainsAgree, judged_unique, shows_alike, stocks_unique, settles_unique}
 
 module _ {s : List ℕ} {q : Request} {r r' : ℕ} where
@@ -23,13 +23,9 @@ module _ {s : List ℕ} {q : Request} {r r' : ℕ} where
   pub settle_unique : {t t₁ t₂ : List ℕ} → SettleCoded s q r t t₁ → SettleCoded s q r' t t₂ → (r ≡ r') × (t₁ ≡ t₂)
   settle_unique h g =
       let same = settles_unique h.settled g.settled in
-      (h.answer ∙ ap (λ a. settling_code (settling_as a)) same.0 ∙ sym g.answer, same.1)
+      (h.answer ∙ ap (λ a. settling_code (answered_as a)) same.0 ∙ sym g.answer, same.1)
 
 -- `decision_stock`
 pub stock_unique : {s : List ℕ} {owner at r r' : ℕ} → StockCoded s owner at r → StockCoded s owner at r' → r ≡ r'
 stock_unique h g =
-    let same = stocks_unique h.list g.list h.judged g.judged in
-    h.answer
-    ∙ ap (λ a. stocked_code (stocked_as a h.list.keys)) same.0
-    ∙ ap (λ l. stocked_code (stocked_as g.list.answer l)) same.1
-    ∙ sym g.answer
+    h.answer ∙ ap (λ l. stocked_code (shown_as l)) (stocks_unique h.list g.list h.judged g.judged) ∙ sym g.answer

@@ -1,14 +1,12 @@
 -- The decision's answers as numbers, for programs in C and in Rust.
-use Rattle.std.specs.Prelude.{◌≡◌, Bool, false, cond, List, ℕ, zero, suc, ◌+◌, ◌*◌, ◌%◌, eqb, get_or}
+use Rattle.std.specs.Prelude.{◌≡◌, Bool, false, cond, List, ℕ, zero, suc, ◌+◌, ◌*◌, ◌%◌, eqb, get_or, Result}
 use Rattle.wac.specs.Limits.{keys}
 use Rattle.wac.specs.Answers.{Answer, gives, refuses}
 use Rattle.boundary.specs.Coded.{code}
-use Rattle.decision.specs.Question.{Reply, reply_of, shown_as, stocked_as, settling_as, Judged, Shows, Stocks, Settles}
+use Rattle.decision.specs.Question.{Reply, reply_of, shown_as, answered_as, Judged, Shows, Stocks, Settles}
 use Rattle.decision.specs.declared.request.Request.{Request}
 use Rattle.decision.specs.declared.question.Verdict.{Verdict}
-use Rattle.decision.specs.declared.question.Shown.{Shown}
-use Rattle.decision.specs.declared.question.StockList.{StockList}
-use Rattle.decision.specs.declared.question.Settling.{Settling}
+use Rattle.decision.specs.declared.question.Refused.{Refused}
 
 -- a number and up to three values as one number: number × 2^56 + steps × 2^48 + passes × 2^32 + minute
 abbrev pub wide_code : ℕ → ℕ → ℕ → ℕ → ℕ
@@ -25,7 +23,7 @@ reply_code x =
     (cond (eqb x.number 2) (wide_code 2 0 second first) (wide_code x.number second (get_or x.values 2 0) first))
 
 -- a verdict as one number
-abbrev pub verdict_code : Verdict → ℕ
+abbrev pub verdict_code : Result Verdict Refused → ℕ
 verdict_code r = reply_code (reply_of r)
 
 -- an answer as one number: 0 and the number of what is given, or the refusal's number with its record
@@ -57,24 +55,24 @@ settling_code (refuses n vs) = long_code n (get_or vs 0 0)
 
 -- r is the code of the verdict on a question, and the lent places are left as that verdict says
 pub record AskCoded (s : List ℕ) (q : Request) (r : ℕ) (minutes minutes' steps steps' chain chain' : List ℕ) : Type 0 where
-  pub verdict : Verdict
+  pub verdict : Result Verdict Refused
   pub judged : Judged s q verdict minutes minutes' steps steps' chain chain'
   pub answer : r ≡ verdict_code verdict
 
 -- r is the code of what the read screen shows
 pub record MayCoded (s : List ℕ) (q : Request) (r : ℕ) : Type 0 where
-  pub shown : Shown
+  pub shown : Result Bool ℕ
   pub judged : Shows s q (shown_as shown)
   pub answer : r ≡ shown_code (shown_as shown)
 
 -- r is the code of the stock list
 pub record StockCoded (s : List ℕ) (owner at : ℕ) (r : ℕ) : Type 0 where
-  pub list : StockList
+  pub list : Result (List Bool) ℕ
   pub judged : Stocks s owner at list
-  pub answer : r ≡ stocked_code (stocked_as list.answer list.keys)
+  pub answer : r ≡ stocked_code (shown_as list)
 
 -- r is the code of what settling answers, and the lent table is left as that answer says
 pub record SettleCoded (s : List ℕ) (q : Request) (r : ℕ) (table table' : List ℕ) : Type 0 where
-  pub settling : Settling
+  pub settling : Result ℕ Refused
   pub settled : Settles s q settling table table'
-  pub answer : r ≡ settling_code (settling_as settling)
+  pub answer : r ≡ settling_code (answered_as settling)

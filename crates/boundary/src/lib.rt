@@ -8,12 +8,12 @@
 mod questions;
 
 ghost use Rattle.std.specs.Prelude.{◌≡◌, ◌++◌, ◌≤◌, length, drop};
-ghost use Rattle.wac.specs.Answers.{first_of, number_of, record_of};
-ghost use Rattle.wac.specs.File.{file_cases, count_of, checked};
+ghost use Rattle.wac.specs.Answers.{first_of, number_of, record_of, comes_back};
+ghost use Rattle.wac.specs.File.{file_cases, count_of};
 ghost use Rattle.boundary.specs.Coded.{code, coded, cert_of, fields, fields_of, FetchCoded, AppendCoded};
 
 pub use questions::{decision_ask, decision_may, decision_settle, decision_short, decision_stock};
-use wac::{Appended, Cert, Checked, Fetched, Ids, Refusal};
+use wac::{Cert, Ids, Refusal};
 
 // How many fields a certificate has.
 const FIELDS: usize = 12;
@@ -32,13 +32,13 @@ fn refusal_code(why: Refusal) -> u32
     code_of(wac::number_of(why), wac::record_of(why))
 }
 
-// What a check found, as one number.
-fn checked_code(found: Checked) -> u32
-    ensures { result ≡ coded (checked found) }
+// A number or a refusal as one number.
+fn answer_code(answer: Result<usize, Refusal>) -> u32
+    ensures { result ≡ coded (comes_back answer) }
 {
-    match found {
-        Checked::Accepted(count) => code_of(0, count),
-        Checked::Refused(why) => refusal_code(why),
+    match answer {
+        Ok(value) => code_of(0, value),
+        Err(why) => refusal_code(why),
     }
 }
 
@@ -46,7 +46,7 @@ fn checked_code(found: Checked) -> u32
 pub fn wac_check(file: &[u8]) -> u32
     ensures { result ≡ coded (first_of (file_cases file.now) (count_of file.now)) }
 {
-    checked_code(wac::check(file))
+    answer_code(wac::check(file))
 }
 
 // What a view of the file counts, which is what its check finds: the count, or 10 to 15.
@@ -56,24 +56,32 @@ pub fn wac_count(file: &[u8]) -> u32
     wac_check(file)
 }
 
+// A certificate's fields, in order.
+fn fields_of(cert: Cert) -> [u32; FIELDS]
+    ensures { result ≡ fields_of cert }
+{
+    [
+        u32::from(cert.kind),
+        u32::from(cert.issuer),
+        u32::from(cert.left),
+        u32::from(cert.subject),
+        u32::from(cert.count),
+        u32::from(cert.ids.0),
+        u32::from(cert.ids.1),
+        u32::from(cert.ids.2),
+        u32::from(cert.mark),
+        u32::from(cert.rights),
+        cert.not_before,
+        cert.not_after,
+    ]
+}
+
 // Writes a certificate's fields to the first 12 lent places, and no others.
 fn fill(lent: &mut [u32], cert: Cert)
     requires { fields ≤ length lent.old }
     ensures { lent.new ≡ fields_of cert ++ drop fields lent.old }
 {
-    let ids = cert.ids;
-    lent[0] = cert.kind as u32;
-    lent[1] = cert.issuer as u32;
-    lent[2] = cert.left as u32;
-    lent[3] = cert.subject as u32;
-    lent[4] = cert.count as u32;
-    lent[5] = ids.0 as u32;
-    lent[6] = ids.1 as u32;
-    lent[7] = ids.2 as u32;
-    lent[8] = cert.mark as u32;
-    lent[9] = cert.rights as u32;
-    lent[10] = cert.not_before;
-    lent[11] = cert.not_after;
+    lent[..FIELDS].copy_from_slice(&fields_of(cert));
 }
 
 // `wac::fetch_in`: certificate n, its fields in the first 12 lent places; or 10 to 15 as `wac_check`,
@@ -81,19 +89,18 @@ fn fill(lent: &mut [u32], cert: Cert)
 pub fn wac_fetch(file: &[u8], n: usize, lent: &mut [u32]) -> u32
     ensures { FetchCoded file.now n lent.old result lent.new }
 {
-    if let Checked::Refused(why) = wac::check(file) {
+    if let Err(why) = wac::check(file) {
         return refusal_code(why);
     }
     if lent.len() < FIELDS {
         return code_of(23, 0);
     }
-    let found = wac::fetch_in(file, n);
-    match found {
-        Fetched::Certificate(cert) => {
+    match wac::fetch_in(file, n) {
+        Ok(cert) => {
             fill(lent, cert);
             code_of(0, 0)
         }
-        Fetched::Refused(why) => refusal_code(why),
+        Err(why) => refusal_code(why),
     }
 }
 
@@ -118,20 +125,16 @@ pub fn wac_append(
 {
     let ids = Ids(first, second, third);
     let cert = Cert {
-        kind: kind,
-        issuer: issuer,
-        left: left,
-        subject: subject,
-        count: count,
-        ids: ids,
-        mark: mark,
-        rights: rights,
-        not_before: not_before,
-        not_after: not_after,
+        kind,
+        issuer,
+        left,
+        subject,
+        count,
+        ids,
+        mark,
+        rights,
+        not_before,
+        not_after,
     };
-    let answer = wac::append(buffer, used, cert);
-    match answer {
-        Appended::Used(next) => code_of(0, next),
-        Appended::Refused(why) => refusal_code(why),
-    }
+    answer_code(wac::append(buffer, used, cert))
 }

@@ -2,7 +2,7 @@
 // gives the answer as one number.
 ghost use Rattle.std.specs.Prelude.{◌≡◌};
 ghost use Rattle.wac.specs.Limits.{keys};
-ghost use Rattle.decision.specs.Question.{request_of, shown_as, stocked_as, settling_as};
+ghost use Rattle.decision.specs.Question.{request_of, shown_as, answered_as};
 ghost use Rattle.boundary.specs.Questions.{
   wide_code,
   verdict_code,
@@ -18,7 +18,7 @@ ghost use Rattle.boundary.specs.Questions.{
 };
 
 use crate::code_of;
-use decision::{Request, Settling, Shown, StockList, Stocked, Verdict};
+use decision::{Refused, Request, Verdict};
 use wac::Table;
 
 // 2^32, 2^48 and 2^56: where passes, steps and number begin in a verdict's code.
@@ -39,14 +39,14 @@ fn wide_code(number: u8, steps: u32, passes: u64, minute: u64) -> u64
 }
 
 // A verdict as one number.
-fn verdict_code(verdict: Verdict) -> u64
+fn verdict_code(verdict: Result<Verdict, Refused>) -> u64
     ensures { result ≡ verdict_code verdict }
 {
     match verdict {
-        Verdict::Granted(minute, steps, passes) => wide_code(0, steps, passes, minute as u64),
-        Verdict::NoChain(passes) => wide_code(1, 0, passes, 0),
-        Verdict::GrantedLong(minute, passes) => wide_code(2, 0, passes, minute as u64),
-        Verdict::Refused(why) => wide_code(
+        Ok(Verdict::Granted(minute, steps, passes)) => wide_code(0, steps, passes, minute as u64),
+        Ok(Verdict::NoChain(passes)) => wide_code(1, 0, passes, 0),
+        Ok(Verdict::GrantedLong(minute, passes)) => wide_code(2, 0, passes, minute as u64),
+        Err(why) => wide_code(
             decision::refusal_number(why),
             0,
             0,
@@ -56,13 +56,12 @@ fn verdict_code(verdict: Verdict) -> u64
 }
 
 // What the read screen shows, as one number.
-fn shown_code(shown: Shown) -> u32
+fn shown_code(shown: Result<bool, u8>) -> u32
     ensures { result ≡ shown_code (shown_as shown) }
 {
     match shown {
-        Shown::Yes => code_of(0, 1),
-        Shown::No => code_of(0, 0),
-        Shown::Refused(number) => code_of(number, 0),
+        Ok(yes) => code_of(0, usize::from(yes)),
+        Err(number) => code_of(number, 0),
     }
 }
 
@@ -71,28 +70,19 @@ fn bits_of(list: &[bool; Table::KEYS]) -> usize
     ensures { result ≡ bits list.now 0 keys }
 {
     let mut sum = 0;
-    let mut key = Table::KEYS;
-    while 0 < key {
-        key -= 1;
-        sum += sum;
-        if list[key] {
-            sum += 1;
-        }
+    for key in (0..Table::KEYS).rev() {
+        sum = 2 * sum + usize::from(list[key]);
     }
     sum
 }
 
 // A stock list as one number.
-fn stocked_code(list: StockList) -> u32
-    ensures { result ≡ stocked_code (stocked_as list.answer list.keys) }
+fn stocked_code(list: Result<[bool; Table::KEYS], u8>) -> u32
+    ensures { result ≡ stocked_code (shown_as list) }
 {
-    let answer = list.answer;
-    match answer {
-        Stocked::Given => {
-            let keys = list.keys;
-            code_of(0, bits_of(&keys))
-        }
-        Stocked::Refused(number) => code_of(number, 0),
+    match list {
+        Ok(keys) => code_of(0, bits_of(&keys)),
+        Err(number) => code_of(number, 0),
     }
 }
 
@@ -104,12 +94,12 @@ fn long_code(number: u8, value: u64) -> u64
 }
 
 // What settling answers, as one number.
-fn settling_code(settling: Settling) -> u64
-    ensures { result ≡ settling_code (settling_as settling) }
+fn settling_code(settling: Result<u64, Refused>) -> u64
+    ensures { result ≡ settling_code (answered_as settling) }
 {
     match settling {
-        Settling::Passes(passes) => long_code(0, passes),
-        Settling::Refused(why) => long_code(
+        Ok(passes) => long_code(0, passes),
+        Err(why) => long_code(
             decision::refusal_number(why),
             decision::refusal_record(why) as u64,
         ),
@@ -130,7 +120,13 @@ pub fn decision_ask(
 ) -> u64
     ensures { AskCoded file.now (request_of owner asker rights at) result minutes.old minutes.new steps.old steps.new chain.old chain.new }
 {
-    verdict_code(decision::ask(file, owner, asker, rights, at, minutes, steps, chain))
+    let request = Request {
+        owner,
+        asker,
+        rights,
+        at,
+    };
+    verdict_code(decision::ask(file, request, minutes, steps, chain))
 }
 
 // `decision::ask_short`: the same for rights 2.
@@ -174,10 +170,10 @@ pub fn decision_settle(
     ensures { SettleCoded file.now (request_of owner asker rights at) result minutes.old minutes.new }
 {
     let request = Request {
-        owner: owner,
-        asker: asker,
-        rights: rights,
-        at: at,
+        owner,
+        asker,
+        rights,
+        at,
     };
     settling_code(decision::settle(file, request, minutes))
 }

@@ -4,4 +4,4 @@ use Rattle.boundary.specs.Coded.{coded}
 use Rattle.boundary.proofs.wac_check.Goals as goal
 
 pub returns : goal.returns
-returns c = c.checked_code.ensures ∙ ap coded c.check.ensures
+returns c = c.answer_code.ensures ∙ ap coded c.check.ensures

@@ -4,9 +4,9 @@ use mathlib.Core.List.{List, []}
 use Prim.Native.Nat.{ℕ, ◌<◌, ◌≤◌}
 use borrow.Author.Tests.{lt-ltb, le-ltb}
 use Rattle.boundary.specs.Coded.{fields, lent_cases, cert_coded, filled}
-use Rattle.wac.specs.Answers.{gives, refuses, first_of}
-use Rattle.wac.specs.File.{count_of, cert_at, file_cases, checked}
-use Rattle.wac.specs.View.{fetch_cases, fetched}
+use Rattle.wac.specs.Answers.{gives, refuses, first_of, comes_back}
+use Rattle.wac.specs.File.{count_of, cert_at, file_cases}
+use Rattle.wac.specs.View.{fetch_cases}
 use Rattle.wac.proofs.Cases.{first_holds, first_fails, first_refused, first_given}
 use Rattle.boundary.proofs.wac_fetch.Goals as goal
 
@@ -29,29 +29,28 @@ module _ (s : List ℕ) (n places : ℕ) where
       ∙ first_fails _ _ _ (le-ltb _ _ l)
       ∙ sym (first_given (file_cases s) _ (count_of s) (cert_at s n) e)
 
-pub returns-in-Refused : goal.returns-in-Refused
-returns-in-Refused c =
+pub returns-in-Err : goal.returns-in-Err
+returns-in-Err c =
     let lent = c.args.lent.now in
-    let found = lent-refused _ _ _ (sym c.check.ensures ∙ ap checked c.in-Refused.is) in
+    let found = lent-refused _ _ _ (sym c.check.ensures ∙ ap comes_back c.in-Err.is) in
     record { answer = c.refusal_code.ensures ∙ sym (ap cert_coded found); places = sym (ap (λ a. filled a lent) found) }
 
 pub returns-then-lent-lt-FIELDS : goal.returns-then-lent-lt-FIELDS
 returns-then-lent-lt-FIELDS c =
     let lent = c.args.lent.now in
-    let accepted = sym c.check.ensures ∙ ap checked c.in_default.is in
-    let found = lent-few _ _ _ accepted c.if-lent-lt-FIELDS.true in
+    let found = lent-few _ _ _ (sym c.check.ensures ∙ ap comes_back c.in_default.is) c.if-lent-lt-FIELDS.true in
     record { answer = c.code_of.ensures ∙ sym (ap cert_coded found); places = sym (ap (λ a. filled a lent) found) }
 
-pub returns-in-Certificate : goal.returns-in-Certificate
-returns-in-Certificate c =
+pub returns-in-Ok : goal.returns-in-Ok
+returns-in-Ok c =
     let lent = c.args.lent.now in
-    let accepted = sym c.check.ensures ∙ ap checked c.in_default.is in
-    let found = lent-fetched _ _ _ accepted c.if-lent-lt-FIELDS.false ∙ sym c.fetch_in-found.ensures.answer ∙ ap fetched c.in-Certificate.is in
-    record { answer = c.code_of-in-Certificate.ensures ∙ sym (ap cert_coded found); places = c.fill.ensures ∙ sym (ap (λ a. filled a lent) found) }
+    let accepted = sym c.check.ensures ∙ ap comes_back c.in_default.is in
+    let found = lent-fetched _ _ _ accepted c.if-lent-lt-FIELDS.false ∙ sym c.fetch_in.ensures.answer ∙ ap comes_back c.in-Ok.is in
+    record { answer = c.code_of-in-Ok.ensures ∙ sym (ap cert_coded found); places = c.fill.ensures ∙ sym (ap (λ a. filled a lent) found) }
 
-pub returns-in-Refused-found : goal.returns-in-Refused-found
-returns-in-Refused-found c =
+pub returns-in-Err-fetch_in : goal.returns-in-Err-fetch_in
+returns-in-Err-fetch_in c =
     let lent = c.args.lent.now in
-    let accepted = sym c.check.ensures ∙ ap checked c.in_default.is in
-    let found = lent-fetched _ _ _ accepted c.if-lent-lt-FIELDS.false ∙ sym c.fetch_in-found.ensures.answer ∙ ap fetched c.in-Refused-found.is in
-    record { answer = c.refusal_code-in-Refused-found.ensures ∙ sym (ap cert_coded found); places = sym (ap (λ a. filled a lent) found) }
+    let accepted = sym c.check.ensures ∙ ap comes_back c.in_default.is in
+    let found = lent-fetched _ _ _ accepted c.if-lent-lt-FIELDS.false ∙ sym c.fetch_in.ensures.answer ∙ ap comes_back c.in-Err-fetch_in.is in
+    record { answer = c.refusal_code-in-Err-fetch_in.ensures ∙ sym (ap cert_coded found); places = sym (ap (λ a. filled a lent) found) }
