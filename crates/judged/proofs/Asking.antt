@@ -5,6 +5,7 @@ use mathlib.Core.List.{List, [], ◌∷◌}
 use Prim.Native.Nat.{ℕ, ◌≤◌}
 use native.Mathlib.Omega.{arith}
 use lib.ListN.{length, get_or, take}
+use Rattle.std.specs.Prelude.{Result}
 use Rattle.wac.specs.Limits.{entries, chain_places}
 use Rattle.wac.proofs.Cases.{gives_not_refuses}
 use Rattle.rewriting.specs.Weighing.{uncounted}
@@ -15,6 +16,7 @@ use Rattle.rewriting.proofs.Steps.{fewest_unique}
 use Rattle.decision.specs.Usable.{rules_of}
 use Rattle.decision.specs.Question.{asked, reply_of, ShortestBest, Counted.counted, Counted.uncountable, Answered.granted, Answered.denied, Judged, Judged.refused, Judged.answered}
 use Rattle.decision.specs.declared.request.Request.{Request}
+use Rattle.decision.specs.declared.question.Refused.{Refused}
 use Rattle.decision.specs.declared.question.Verdict.{Verdict}
 use Rattle.decision.proofs.AskLaws.{no_places}
 use Rattle.decision.proofs.Unique.{chain_written}
@@ -24,7 +26,7 @@ use Rattle.judged.proofs.Judging.{judged}
 use Rattle.judged.proofs.Unique.{line_unique}
 
 -- what a verdict and the chain written say, as a line
-record Spoken (s : List ℕ) (q : Request) (r : Verdict) (written : List ℕ) : Type 0 where
+record Spoken (s : List ℕ) (q : Request) (r : Result Verdict Refused) (written : List ℕ) : Type 0 where
   line : Line
   says : Says s q line
   replied : reply_of r ≡ reply_in line
@@ -51,7 +53,7 @@ not_long s q (NO-CHAIN N) h best few = h.none best.chain best.leads
 
 module _ (c : Case) (right : Right c) where
   -- what a verdict on the case says
-  spoken : {r : Verdict} {m m' t t' ch ch' : List ℕ} → entries ≤ length m → entries ≤ length t → chain_places ≤ length ch →
+  spoken : {r : Result Verdict Refused} {m m' t t' ch ch' : List ℕ} → entries ≤ length m → entries ≤ length t → chain_places ≤ length ch →
       Judged c.file (request_in c) r m m' t t' ch ch' → Spoken c.file (request_in c) r ch'
   spoken {m = m} {m'} {t} {t'} {ch} {ch'} m-long t-long ch-long (refused n vs case e at-m at-t at_c) =
       absurd (gives_not_refuses (sym right.admitted ∙ sym (no_places c.file (request_in c) m m' t t' ch ch' m-long t-long ch-long) ∙ case))

@@ -1,5 +1,5 @@
 -- What it is for the line of a case to be right: in terms of the file's bytes, of passes and of chains, and not of an engine.
-use Rattle.std.specs.Prelude.{◌≡◌, List, [], ◌∷◌, ◌++◌, ℕ, ◌≤◌, length, take}
+use Rattle.std.specs.Prelude.{◌≡◌, List, [], ◌∷◌, ◌++◌, ℕ, ◌≤◌, length, take, Result}
 use Rattle.wac.specs.Limits.{entries, chain_places}
 use Rattle.wac.specs.Answers.{gives, first_of}
 use Rattle.wac.specs.File.{count_of, file_cases, certs_of}
@@ -9,6 +9,7 @@ use Rattle.rewriting.specs.Passes.{PassCount}
 use Rattle.decision.specs.Usable.{rules_of}
 use Rattle.decision.specs.Question.{Reply, reply, reply_of, asked, request_of, request_cases, ShortestBest, Judged}
 use Rattle.decision.specs.declared.request.Request.{Request}
+use Rattle.decision.specs.declared.question.Refused.{Refused}
 use Rattle.decision.specs.declared.question.Verdict.{Verdict}
 
 -- a line: GRANTED with minute, steps, passes and chain; NO-CHAIN with passes
@@ -67,7 +68,7 @@ Written s q (NO-CHAIN passes) written = Unit {0}
 -- a case's line is what comes back: every verdict on its file and request that meets the question's statement, with
 -- places enough lent, has the line's number and values, and the chain written is as the line says
 pub record ComesBack (c : Case) : Type 0 where
-  pub every : {r : Verdict} {m m' t t' ch ch' : List ℕ} →
+  pub every : {r : Result Verdict Refused} {m m' t t' ch ch' : List ℕ} →
       entries ≤ length m → entries ≤ length t → chain_places ≤ length ch →
       Judged c.file (request_in c) r m m' t t' ch ch' →
       (reply_of r ≡ reply_in c.line) × Written c.file (request_in c) c.line ch'
