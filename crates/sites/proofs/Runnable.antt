@@ -16,7 +16,6 @@ use Rattle.decision.specs.Engine.{held, SettledFrom}
 use Rattle.decision.specs.Question.{asked, Settles}
 use Rattle.decision.specs.declared.request.Request.{Request}
 use Rattle.decision.specs.declared.lens.Lens.TheVariants.{Minutes}
-use Rattle.decision.specs.declared.question.Settling.TheVariants as settlings
 use Rattle.decision.proofs.AskLaws.{settle_given}
 use Rattle.decision.proofs.TableLaws.{length_row, list_held}
 use Rattle.sites.specs.Notes.{note_length, note_from, note_bytes}
@@ -50,7 +49,7 @@ module _ {s : List ℕ} {q : Request} {session : ℕ} (order : InOrder s q) {x :
       let after = row_of t ++ drop entries x.minutes in
       let given = settle_given s q (length x.minutes) order.admitted st.minutes.long in (
         worked_site x after,
-        Works.worked count.0 after (subst₂ (λ f r. Settles f r (settlings.Passes count.0) x.minutes after) (sym st.file) (sym st.request)
+        Works.worked count.0 after (subst₂ (λ f r. Settles f r (Ok count.0) x.minutes after) (sym st.file) (sym st.request)
             (Settles.settled given count.0 (row_settles t count.0 count.1 refl) refl)) refl,
       )
 

@@ -10,7 +10,6 @@ use Rattle.wac.specs.Answers.{Answer, gives, refuses}
 use Rattle.wac.proofs.Cases.{gives_not_refuses}
 use Rattle.wac.proofs.Unique.{told_apart}
 use Rattle.decision.specs.declared.request.Request.{Request}
-use Rattle.decision.specs.declared.question.Admitted.TheVariants as admits
 use Rattle.decision.proofs.Unique.{admit_unique, settles_unique}
 use Rattle.sites.specs.Notes.{raise_kind, note_from}
 use Rattle.sites.specs.Site.{blank_site, Opens, worked_site, Works, taken_as, site_after, bytes_after, Takes, sending_as, bytes_sent, Sends}
@@ -26,7 +25,7 @@ use Rattle.sites.specs.declared.site.Taking.{Taking}
 module _ {s : List ℕ} {q : Request} {session : ℕ} where
   pub opens_unique : {r r' : Opening} → Opens s q session r → Opens s q session r' → r ≡ r'
   opens_unique (Opens.refused why case e) (Opens.refused why' case' e') =
-      let reason : why ≡ why' = cc (admit_unique s q (admits.Refused why) (admits.Refused why') (sym case) (sym case')) in
+      let reason : why ≡ why' = cc (admit_unique s q (Err why) (Err why') (sym case) (sym case')) in
       e ∙ ap (λ w. record { answer = Err w; site = blank_site }) reason ∙ sym e'
   opens_unique (Opens.refused why case e) (Opens.opened case' e') = absurd (gives_not_refuses (sym case' ∙ case))
   opens_unique (Opens.opened case e) (Opens.refused why case' e') = absurd (gives_not_refuses (sym case ∙ case'))

@@ -1,10 +1,13 @@
 -- What a note's 12 bytes say: document 01, "Two sites".
-use Rattle.std.specs.Prelude.{Bool, not, ◌&&◌, ◌||◌, List, ◌∷◌, ◌++◌, ℕ, ltb, eqb, length, get_or}
+use Rattle.std.specs.Prelude.{◌≡◌, ◌≢◌, Result, MatchResult, Bool, not, ◌&&◌, ◌||◌, List, ◌∷◌, ◌++◌, ℕ, ltb, eqb, length, get_or}
 use Rattle.wac.specs.Limits.{access}
 use Rattle.wac.specs.Bytes.{word_bytes}
 use Rattle.wac.specs.Record.{word_at}
 use Rattle.decision.specs.Table.{is_entry}
 use Rattle.sites.specs.declared.note.Note.{Note}
+use Rattle.sites.specs.declared.note.NoKind.{NoKind}
+use Rattle.sites.specs.declared.note.NoteKind.{NoteKind}
+use Rattle.sites.specs.declared.note.NoteKind.TheVariants.{Raise, Receipt}
 
 -- the bytes of a note
 abbrev pub note_length : ℕ
@@ -17,6 +20,15 @@ raise_kind = 1
 -- the kind of a receipt
 abbrev pub receipt_kind : ℕ
 receipt_kind = 2
+
+-- the code of each kind
+abbrev pub kind_code : NoteKind → ℕ
+kind_code Raise = raise_kind
+kind_code Receipt = receipt_kind
+
+-- the result is the kind with this code, or there is none
+abbrev pub CodesKind : ℕ → Result NoteKind NoKind → Type 0
+CodesKind code r = MatchResult r (λ kind. kind_code kind ≡ code) (λ _. (code ≢ raise_kind) × (code ≢ receipt_kind))
 
 -- the note that bytes say: session (4, high first), kind, key, symbol, arrival, minute (4, high first)
 abbrev pub note_from : List ℕ → Note

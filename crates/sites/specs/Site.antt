@@ -12,8 +12,7 @@ use Rattle.decision.specs.Question.{request_of, request_cases, refused_as, Settl
 use Rattle.decision.specs.declared.request.Request.{Request}
 use Rattle.decision.specs.declared.lens.Lens.TheVariants.{Minutes}
 use Rattle.decision.specs.declared.question.Refused.{Refused}
-use Rattle.decision.specs.declared.question.Settling.TheVariants as settlings
-use Rattle.sites.specs.Notes.{note_length, raise_kind, receipt_kind, note_from, note_bytes, note_ok}
+use Rattle.sites.specs.Notes.{note_length, raise_kind, receipt_kind, kind_code, note_from, note_bytes, note_ok}
 use Rattle.sites.specs.declared.note.Note.{Note}
 use Rattle.sites.specs.declared.note.NoteKind.{NoteKind}
 use Rattle.sites.specs.declared.note.NoteKind.TheVariants.{Raise, Receipt}
@@ -82,8 +81,8 @@ worked_site x minutes = record {
 
 -- working: passes over its own file until nothing changes; a site whose file or request is not in order stays as it is
 pub data Works (x x' : Site) : Type 0 where
-  worked : (N : ℕ) (minutes : List ℕ) → Settles (file_of x) x.request (settlings.Passes N) x.minutes minutes → x' ≡ worked_site x minutes → Works x x'
-  refused : (why : Refused) → Settles (file_of x) x.request (settlings.Refused why) x.minutes x.minutes → x' ≡ x → Works x x'
+  worked : (N : ℕ) (minutes : List ℕ) → Settles (file_of x) x.request (Ok N) x.minutes minutes → x' ≡ worked_site x minutes → Works x x'
+  refused : (why : Refused) → Settles (file_of x) x.request (Err why) x.minutes x.minutes → x' ≡ x → Works x x'
 
 -- the minute that a site holds for the entry with this number
 abbrev pub minute_at : Site → ℕ → ℕ
@@ -136,8 +135,7 @@ note_number Later = 28
 
 -- what becomes of a note comes back as its kind, or as the refusal's number
 abbrev pub taken_as : Result NoteKind NoteRefused → Answer ℕ
-taken_as (Ok Raise) = gives raise_kind
-taken_as (Ok Receipt) = gives receipt_kind
+taken_as (Ok kind) = gives (kind_code kind)
 taken_as (Err why) = refuses (note_number why) []
 
 -- the refusals of a note, in document 01's order: the lent receipt's room, the note's form, its session, a receipt for a later minute than the entry holds

@@ -1,41 +1,29 @@
-// Entries by their numbers: the key, the symbol and the place of each.
-ghost use Rattle.std.specs.Prelude.{◌≡◌, ◌<◌};
-ghost use Rattle.wac.specs.Limits.{entries};
+// Entries by their numbers.
+ghost use Rattle.std.specs.Prelude.{◌≡◌, ◌≤◌, ◌<◌};
+ghost use Rattle.wac.specs.Limits.{keys, access, end_place, entries};
 ghost use Rattle.decision.specs.Table.{key_of, symbol_of, arrival_of};
 
+use decision::Entry;
 use wac::Table;
 
-// The key of the entry with this number.
-pub fn key_of(entry: usize) -> u8
-    requires { entry < entries }
-    ensures { result ≡ key_of entry }
+// The entry with this number.
+#[tactic(auto, unfolding(decision::specs::Table::key_of, decision::specs::Table::symbol_of, decision::specs::Table::arrival_of))]
+pub(crate) fn entry_at(number: usize) -> Entry
+    requires { number < entries }
+    ensures named { result ≡ record { key = key_of number; symbol = symbol_of number; place = arrival_of number } }
+    ensures bounds { (result.key < keys) × (result.symbol ≤ access) × (result.place ≤ end_place) }
 {
-    if entry < Table::NAMED_ENTRIES {
-        (entry / Table::KEYS / Table::IDENTIFIERS % 256) as u8
+    if number < Table::NAMED_ENTRIES {
+        Entry {
+            key: number / Table::KEYS / Table::IDENTIFIERS,
+            symbol: number / Table::KEYS % Table::IDENTIFIERS,
+            place: number % Table::KEYS,
+        }
     } else {
-        (entry % Table::KEYS) as u8
-    }
-}
-
-// The symbol of the entry with this number.
-pub fn symbol_of(entry: usize) -> u8
-    requires { entry < entries }
-    ensures { result ≡ symbol_of entry }
-{
-    if entry < Table::NAMED_ENTRIES {
-        (entry / Table::KEYS % Table::IDENTIFIERS) as u8
-    } else {
-        (Table::DELEGATE + (entry - Table::NAMED_ENTRIES) / Table::KEYS % 256) as u8
-    }
-}
-
-// The place where the entry with this number arrives.
-pub fn arrival_of(entry: usize) -> u8
-    ensures { result ≡ arrival_of entry }
-{
-    if entry < Table::NAMED_ENTRIES {
-        (entry % Table::KEYS) as u8
-    } else {
-        Table::END as u8
+        Entry {
+            key: number % Table::KEYS,
+            symbol: Table::DELEGATE + (number - Table::NAMED_ENTRIES) / Table::KEYS,
+            place: Table::END,
+        }
     }
 }

@@ -9,5 +9,5 @@ mod entry;
 mod note;
 mod site;
 
-pub use note::{Note, NoteKind};
+pub use note::{NoKind, Note, NoteKind};
 pub use site::{NoteRefused, Opening, Showing, Site, Taking, note_refusal_number};

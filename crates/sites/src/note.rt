@@ -1,12 +1,60 @@
 // A note: 12 bytes that name an entry and a minute.
-ghost use Rattle.std.specs.Prelude.{◌≡◌, ◌≤◌, length};
+ghost use Rattle.std.specs.Prelude.{◌≡◌, ◌≤◌, ◌<◌, true, false, length, MatchOption};
 ghost use Rattle.std.proofs.lemmas.List.Edits.{sets};
-ghost use Rattle.decision.specs.Table.{entry_number};
-ghost use Rattle.sites.specs.Notes.{note_length, note_from, note_bytes, formed, note_ok};
+ghost use Rattle.wac.specs.Limits.{entries};
+ghost use Rattle.sites.specs.Notes.{
+  note_length,
+  kind_code,
+  CodesKind,
+  note_from,
+  note_bytes,
+  formed,
+  note_ok,
+};
+ghost use Rattle.sites.specs.Site.{entry_of, receipt_of};
 
+use decision::Entry;
 use wac::Table;
 
-// A note, as its bytes say it.
+// What kind of note it is.
+#[derive(Clone, Copy)]
+pub enum NoteKind {
+    // It raises an entry's minute, and has a receipt.
+    Raise,
+    // It is a raise's receipt.
+    Receipt,
+}
+
+// A byte that is the code of no kind of note.
+#[derive(Clone, Copy)]
+pub struct NoKind;
+
+impl From<NoteKind> for u8 {
+    ghost from_gives = { λ kind code. code ≡ kind_code kind };
+
+    fn from(kind: NoteKind) -> u8 {
+        match kind {
+            NoteKind::Raise => 1,
+            NoteKind::Receipt => 2,
+        }
+    }
+}
+
+impl TryFrom<u8> for NoteKind {
+    type Error = NoKind;
+
+    ghost try_from_gives = { CodesKind };
+
+    fn try_from(code: u8) -> Result<NoteKind, NoKind> {
+        match code {
+            1 => Ok(NoteKind::Raise),
+            2 => Ok(NoteKind::Receipt),
+            _ => Err(NoKind),
+        }
+    }
+}
+
+// A note, as its bytes say it: its kind is any byte, since any 12 bytes say a note (`note_from`).
 #[derive(Clone, Copy)]
 pub struct Note {
     pub session: u32,
@@ -17,99 +65,104 @@ pub struct Note {
     pub minute: u32,
 }
 
+impl From<Note> for [u8; Note::BYTES] {
+    ghost from_gives = { λ note bytes. bytes ≡ note_bytes note };
+
+    fn from(note: Note) -> [u8; Note::BYTES] {
+        let session = wac::word_bytes(note.session);
+        let minute = wac::word_bytes(note.minute);
+        [
+            session[0],
+            session[1],
+            session[2],
+            session[3],
+            note.kind,
+            note.key,
+            note.symbol,
+            note.arrival,
+            minute[0],
+            minute[1],
+            minute[2],
+            minute[3],
+        ]
+    }
+}
+
+impl From<Note> for Entry {
+    ghost from_gives = { λ note entry. entry ≡ record { key = note.key; symbol = note.symbol; place = note.arrival } };
+
+    fn from(note: Note) -> Entry {
+        Entry {
+            key: note.key as usize,
+            symbol: note.symbol as usize,
+            place: note.arrival as usize,
+        }
+    }
+}
+
 impl Note {
     // The bytes of a note.
     pub const BYTES: usize = 12;
 
-    // The kind of a raise.
-    pub const RAISE: u8 = 1;
-
-    // The kind of a receipt.
-    pub const RECEIPT: u8 = 2;
-}
-
-// What kind of note was taken.
-#[derive(Clone, Copy)]
-pub enum NoteKind {
-    // It was a raise, and its receipt is written.
-    Raise,
-    // It was a receipt.
-    Receipt,
-}
-
-// What the first 12 bytes say.
-pub fn note_from(bytes: &[u8]) -> Note
-    requires { note_length ≤ length bytes.now }
-    ensures { result ≡ note_from bytes.now }
-{
-    let session = wac::word_of(bytes[0], bytes[1], bytes[2], bytes[3]);
-    let minute = wac::word_of(bytes[8], bytes[9], bytes[10], bytes[11]);
-    Note {
-        session: session,
-        kind: bytes[4],
-        key: bytes[5],
-        symbol: bytes[6],
-        arrival: bytes[7],
-        minute: minute,
-    }
-}
-
-// Is every field in range?
-pub fn is_formed(note: Note) -> bool
-    ensures { result ≡ formed note }
-{
-    if note.kind != Note::RAISE {
-        if note.kind != Note::RECEIPT {
-            return false;
+    // What the first 12 bytes say.
+    pub(crate) fn read(bytes: &[u8]) -> Note
+        requires { note_length ≤ length bytes.now }
+        ensures { result ≡ note_from bytes.now }
+    {
+        Note {
+            session: wac::word_of(bytes[0], bytes[1], bytes[2], bytes[3]),
+            kind: bytes[4],
+            key: bytes[5],
+            symbol: bytes[6],
+            arrival: bytes[7],
+            minute: wac::word_of(bytes[8], bytes[9], bytes[10], bytes[11]),
         }
     }
-    if note.minute == 0 {
-        return false;
-    }
-    if Table::ACCESS <= note.symbol as usize {
-        return false;
-    }
-    entry_of(note) < Table::ENTRIES
-}
 
-// Are these 12 bytes with every field in range?
-pub fn is_note(bytes: &[u8]) -> bool
-    ensures { result ≡ note_ok bytes.now }
-{
-    if bytes.len() != Note::BYTES {
-        return false;
+    // What these bytes say, if they are 12 and every field is in range.
+    pub(crate) fn read_formed(bytes: &[u8]) -> Option<Note>
+        ensures { MatchOption result (note_ok bytes.now ≡ false) (λ note. (note_ok bytes.now ≡ true) × (note ≡ note_from bytes.now)) }
+    {
+        if bytes.len() != Note::BYTES {
+            return None;
+        }
+        let note = Note::read(bytes);
+        if note.is_formed() { Some(note) } else { None }
     }
-    is_formed(note_from(bytes))
-}
 
-// The number of the entry that the note names, and 2,592 where there is no such entry.
-pub fn entry_of(note: Note) -> usize
-    ensures { result ≡ entry_number note.key note.symbol note.arrival }
-{
-    decision::entry_number(
-        note.key as usize,
-        note.symbol as usize,
-        note.arrival as usize,
-    )
-}
+    // Is every field in range?
+    fn is_formed(self) -> bool
+        ensures { result ≡ formed self }
+    {
+        NoteKind::try_from(self.kind).is_ok()
+            && self.minute != 0
+            && (self.symbol as usize) < Table::ACCESS
+            && decision::entry_number(Entry::from(self)).is_some()
+    }
 
-// Writes the note's 12 bytes, and no others.
-pub fn write_note(note: Note, to: &mut [u8])
-    requires { note_length ≤ length to.old }
-    ensures { to.new ≡ sets to.old 0 (note_bytes note) }
-{
-    let session = wac::word_bytes(note.session);
-    let minute = wac::word_bytes(note.minute);
-    to[0] = session[0];
-    to[1] = session[1];
-    to[2] = session[2];
-    to[3] = session[3];
-    to[4] = note.kind;
-    to[5] = note.key;
-    to[6] = note.symbol;
-    to[7] = note.arrival;
-    to[8] = minute[0];
-    to[9] = minute[1];
-    to[10] = minute[2];
-    to[11] = minute[3];
+    // The number of the entry that a note names whose fields are in range.
+    pub(crate) fn entry(self) -> usize
+        requires { formed self ≡ true }
+        ensures { (result ≡ entry_of self) × (result < entries) }
+    {
+        decision::entry_number(Entry::from(self)).unwrap()
+    }
+
+    // The receipt of a raise: the same entry and minute.
+    pub(crate) fn receipt(self) -> Note
+        ensures { result ≡ receipt_of self }
+    {
+        Note {
+            kind: u8::from(NoteKind::Receipt),
+            ..self
+        }
+    }
+
+    // Writes the note's 12 bytes, and no others.
+    pub(crate) fn write(self, to: &mut [u8])
+        requires { note_length ≤ length to.old }
+        ensures { to.new ≡ sets to.old 0 (note_bytes self) }
+    {
+        to[..Note::BYTES].copy_from_slice(&<[u8; Note::BYTES]>::from(self));
+    }
 }

@@ -1,12 +1,11 @@
 // A site: its own copy of the file, the request and the session number, and for each entry its minute
 // and its receipted minute.
-ghost use Rattle.std.specs.Prelude.{◌≡◌, ◌≤◌, ◌<◌, max, length, MatchResult};
+ghost use Rattle.std.specs.Prelude.{◌≡◌, ◌≤◌, ◌<◌, length, MatchResult};
 ghost use Rattle.wac.specs.Limits.{entries, keys, largest_file};
 ghost use Rattle.wac.specs.Answers.{first_of};
 ghost use Rattle.sites.specs.Notes.{note_length, note_from};
 ghost use Rattle.sites.specs.declared.site.NoteRefused.TheVariants.{Room};
 ghost use Rattle.sites.specs.Site.{
-  copied,
   start_of,
   opened_site,
   blank_site,
@@ -15,39 +14,40 @@ ghost use Rattle.sites.specs.Site.{
   raised_site,
   receipted_site,
   raise_of,
-  receipt_of,
   taken_as,
   note_cases,
   Takes,
-  NextDue,
+  next_of,
   Sends,
   restful,
   showing,
   note_number,
 };
 
+use crate::entry::entry_at;
 use crate::note::{Note, NoteKind};
-use crate::{entry, note};
-use decision::{Admitted, Refused, Request, Settling};
+use decision::{Entry, Refused, Request};
 use wac::Table;
 
 // A site.
 #[derive(Clone, Copy)]
 pub struct Site {
-    // The bytes of its file, and how many of them there are.
+    // The bytes of its file, and how many of them there are: an array with a length, since memory is fixed.
     file: [u8; Table::LARGEST],
     used: usize,
     request: Request,
     session: u32,
-    // It was opened.
+    // It was opened: a flag, since a refused opening has a site too (`blank_site`), which works and takes notes.
     live: bool,
+    // Two tables and no table of pairs: `settle` passes over the minutes alone.
     minutes: [u32; Table::ENTRIES],
     receipted: [u32; Table::ENTRIES],
     // It has worked since it was opened and since the last rise.
     idle: bool,
 }
 
-// An opening: the answer, and the site, blank where it is refused.
+// An opening: the answer, and the site, blank where it is refused: the site stands beside the answer, since theorems
+// speak of the site of a refused opening (`blank_works`, `blank_takes`).
 #[derive(Clone, Copy)]
 pub struct Opening {
     pub answer: Result<(), Refused>,
@@ -67,7 +67,7 @@ pub enum NoteRefused {
     Later,
 }
 
-// The refusal's number.
+// The refusal's number: no From, since it is one of the numbers of what comes back, as `decision::refusal_number` is.
 pub fn note_refusal_number(why: NoteRefused) -> u8
     ensures { result ≡ note_number why }
 {
@@ -86,33 +86,31 @@ pub struct Taking {
     pub site: Site,
 }
 
-// What a site shows.
+// What a site shows: a flag beside the minute, since the theorems on two sites name both (`rest_agrees`).
 #[derive(Clone, Copy)]
 pub struct Showing {
     pub minute: u32,
     pub granted: bool,
 }
 
-// Copies the bytes to the first places of a longer list.
-fn copy_bytes(from: &[u8], to: &mut [u8])
-    requires { length from.now ≤ length to.old }
-    ensures { to.new ≡ copied from.now to.old }
-{
-    for i in 0..from.len() {
-        to[i] = from[i];
-    }
-}
-
-// The minutes at the start: without end at the asker's two marks, none elsewhere.
+// The minutes at the start: without end at the asker's two marks, none elsewhere. `decision` keeps its own start, over
+// a lent list and by a lens, to itself.
 fn start_minutes(asker: usize) -> [u32; Table::ENTRIES]
     requires { asker < keys }
     ensures { result ≡ start_of asker }
 {
     let mut minutes = [0u32; Table::ENTRIES];
-    let delegate = decision::entry_number(asker, Table::DELEGATE, Table::END);
-    let access = decision::entry_number(asker, Table::ACCESS, Table::END);
-    minutes[delegate] = Table::WITHOUT_END;
-    minutes[access] = Table::WITHOUT_END;
+    let delegate = Entry {
+        key: asker,
+        symbol: Table::DELEGATE,
+        place: Table::END,
+    };
+    let access = Entry {
+        symbol: Table::ACCESS,
+        ..delegate
+    };
+    minutes[decision::entry_number(delegate).unwrap()] = Table::WITHOUT_END;
+    minutes[decision::entry_number(access).unwrap()] = Table::WITHOUT_END;
     minutes
 }
 
@@ -124,22 +122,6 @@ fn room_for_note(room: usize) -> Result<(), NoteRefused>
         return Err(NoteRefused::Room);
     }
     Ok(())
-}
-
-// The greater of two minutes.
-fn later(x: u32, y: u32) -> u32
-    ensures { result ≡ max x y }
-{
-    if x < y { y } else { x }
-}
-
-// The receipt of a raise: the same entry and minute.
-fn receipt_of(raise: Note) -> Note
-    ensures { result ≡ receipt_of raise }
-{
-    let mut receipt = raise;
-    receipt.kind = Note::RECEIPT;
-    receipt
 }
 
 impl Site {
@@ -170,15 +152,15 @@ impl Site {
         ensures { result ≡ opened_site file.now request session }
     {
         let mut copy = [0u8; Table::LARGEST];
-        copy_bytes(file, &mut copy);
+        copy[..file.len()].copy_from_slice(file);
         let minutes = start_minutes(request.asker as usize);
         Site {
             file: copy,
             used: file.len(),
-            request: request,
-            session: session,
+            request,
+            session,
             live: true,
-            minutes: minutes,
+            minutes,
             receipted: minutes,
             idle: false,
         }
@@ -188,22 +170,15 @@ impl Site {
     pub fn open(file: &[u8], request: Request, session: u32) -> Opening
         ensures { Opens file.now request session result }
     {
-        let admitted = decision::admit(file, request);
-        match admitted {
-            Admitted::Refused(why) => {
-                let site = Site::blank();
-                Opening {
-                    answer: Err(why),
-                    site: site,
-                }
-            }
-            Admitted::Count(_) => {
-                let site = Site::on(file, request, session);
-                Opening {
-                    answer: Ok(()),
-                    site: site,
-                }
-            }
+        match decision::admit(file, request) {
+            Err(why) => Opening {
+                answer: Err(why),
+                site: Site::blank(),
+            },
+            Ok(_) => Opening {
+                answer: Ok(()),
+                site: Site::on(file, request, session),
+            },
         }
     }
 
@@ -211,26 +186,21 @@ impl Site {
     pub fn work(self) -> Site
         ensures { Works self result }
     {
-        let mut worked = self;
-        let file = self.file;
-        let mut used = self.used;
-        let mut minutes = self.minutes;
-        if Table::LARGEST < used {
-            used = Table::LARGEST;
-        }
-        let settling = decision::settle(&file[..used], self.request, &mut minutes);
-        match settling {
-            Settling::Refused(_) => self,
-            Settling::Passes(_) => {
-                worked.minutes = minutes;
-                worked.idle = true;
-                worked
-            }
+        let used = self.used.min(Table::LARGEST);
+        let mut settled = self.minutes;
+        match decision::settle(&self.file[..used], self.request, &mut settled) {
+            Err(_) => self,
+            Ok(_) => Site {
+                minutes: settled,
+                idle: true,
+                ..self
+            },
         }
     }
 
     // A raise: the entry's minute and receipted minute become the greater; if its minute rose, the site
-    // must work again.
+    // must work again. An entry's number is a plain number here and below: a type for one that exists would be
+    // unwrapped at each index, where the `requires` is one comparison, met by the function that gave the number.
     fn raise_at(self, entry: usize, minute: u32) -> Site
         requires { entry < entries }
         ensures { result ≡ raised_site self entry minute }
@@ -238,8 +208,8 @@ impl Site {
         let mut raised = self;
         let held = raised.minutes[entry];
         let known = raised.receipted[entry];
-        raised.minutes[entry] = later(held, minute);
-        raised.receipted[entry] = later(known, minute);
+        raised.minutes[entry] = held.max(minute);
+        raised.receipted[entry] = known.max(minute);
         if held < minute {
             raised.idle = false;
         }
@@ -253,7 +223,7 @@ impl Site {
     {
         let mut told = self;
         let known = told.receipted[entry];
-        told.receipted[entry] = later(known, minute);
+        told.receipted[entry] = known.max(minute);
         told
     }
 
@@ -262,21 +232,17 @@ impl Site {
         ensures { taken_as result ≡ first_of (note_cases self.now bytes.now room) (note_from bytes.now).kind }
     {
         room_for_note(room)?;
-        if !note::is_note(bytes) {
-            return Err(NoteRefused::Form);
-        }
-        let said = note::note_from(bytes);
+        let said = Note::read_formed(bytes).ok_or(NoteRefused::Form)?;
         if !self.live {
             return Err(NoteRefused::Session);
         }
         if said.session != self.session {
             return Err(NoteRefused::Session);
         }
-        if said.kind == Note::RAISE {
+        if said.kind == u8::from(NoteKind::Raise) {
             return Ok(NoteKind::Raise);
         }
-        let entry = note::entry_of(said);
-        if self.minutes[entry] < said.minute {
+        if self.minutes[said.entry()] < said.minute {
             return Err(NoteRefused::Later);
         }
         Ok(NoteKind::Receipt)
@@ -289,43 +255,34 @@ impl Site {
     {
         let answer = self.answer_for(bytes, receipt.len());
         match answer {
-            Err(_) => Taking {
-                answer: answer,
-                site: self,
-            },
+            Err(_) => Taking { answer, site: self },
             Ok(NoteKind::Raise) => {
-                let said = note::note_from(bytes);
-                let raised = self.raise_at(note::entry_of(said), said.minute);
-                note::write_note(receipt_of(said), receipt);
+                let said = Note::read(bytes);
+                let raised = self.raise_at(said.entry(), said.minute);
+                said.receipt().write(receipt);
                 Taking {
-                    answer: answer,
+                    answer,
                     site: raised,
                 }
             }
             Ok(NoteKind::Receipt) => {
-                let said = note::note_from(bytes);
-                let told = self.receipt_at(note::entry_of(said), said.minute);
-                Taking {
-                    answer: answer,
-                    site: told,
-                }
+                let said = Note::read(bytes);
+                let told = self.receipt_at(said.entry(), said.minute);
+                Taking { answer, site: told }
             }
         }
     }
 
-    // The lowest entry from `from` on whose minute is above its receipted minute, and 2,592 where there is
-    // none.
-    fn next_due(&self, from: usize) -> usize
-        ensures { NextDue self.now from result }
+    // The lowest entry from `from` on whose minute is above its receipted minute.
+    fn next_due(&self, from: usize) -> Option<usize>
+        ensures { result ≡ next_of self.now from }
     {
-        let mut entry = from;
-        while entry < Table::ENTRIES {
+        for entry in from..Table::ENTRIES {
             if self.receipted[entry] < self.minutes[entry] {
-                return entry;
+                return Some(entry);
             }
-            entry += 1;
         }
-        Table::ENTRIES
+        None
     }
 
     // The note of an entry.
@@ -333,12 +290,13 @@ impl Site {
         requires { entry < entries }
         ensures { result ≡ raise_of self.now entry }
     {
+        let named = entry_at(entry);
         Note {
             session: self.session,
-            kind: Note::RAISE,
-            key: entry::key_of(entry),
-            symbol: entry::symbol_of(entry),
-            arrival: entry::arrival_of(entry),
+            kind: u8::from(NoteKind::Raise),
+            key: named.key as u8,
+            symbol: named.symbol as u8,
+            arrival: named.place as u8,
             minute: self.minutes[entry],
         }
     }
@@ -348,12 +306,11 @@ impl Site {
         ensures { Sends self.now from bytes.old result bytes.new }
     {
         room_for_note(bytes.len())?;
-        let entry = self.next_due(from);
-        if Table::ENTRIES <= entry {
-            return Ok(None);
+        let due = self.next_due(from);
+        if let Some(entry) = due {
+            self.raise_of(entry).write(bytes);
         }
-        note::write_note(self.raise_of(entry), bytes);
-        Ok(Some(entry))
+        Ok(due)
     }
 
     // Rest: the site has worked since it was opened and since the last rise, and no entry's minute is above
@@ -361,10 +318,7 @@ impl Site {
     pub fn rests(&self) -> bool
         ensures { result ≡ restful self.now }
     {
-        if !self.idle {
-            return false;
-        }
-        Table::ENTRIES <= self.next_due(0)
+        self.idle && self.next_due(0).is_none()
     }
 
     // The owner's mark 10 minute, and granted if it is not 0.
@@ -372,16 +326,17 @@ impl Site {
         ensures { result ≡ showing self.now }
     {
         let owner = self.request.owner as usize;
-        let entry = decision::entry_number(owner, Table::DELEGATE, Table::END);
-        if Table::ENTRIES <= entry {
-            return Showing {
-                minute: 0,
-                granted: false,
-            };
-        }
-        let minute = self.minutes[entry];
+        let delegate = Entry {
+            key: owner,
+            symbol: Table::DELEGATE,
+            place: Table::END,
+        };
+        let minute = match decision::entry_number(delegate) {
+            Some(entry) => self.minutes[entry],
+            None => 0,
+        };
         Showing {
-            minute: minute,
+            minute,
             granted: minute != 0,
         }
     }
