@@ -6,18 +6,19 @@ use Prim.Native.Nat.{ℕ, ◌+◌, ◌≤◌}
 use native.Mathlib.Omega.{arith}
 use lib.ListN.{length, take}
 use lib.Seq.{take_all, length-sets}
+use Rattle.std.specs.Prelude.{Some, None, Result, Ok, Err}
 use Rattle.wac.specs.Limits.{entries}
 use Rattle.decision.specs.declared.request.Request.{Request}
 use Rattle.sites.specs.Notes.{note_length, note_from, note_bytes}
 use Rattle.sites.specs.Site.{Works, Takes, Sends, raise_of, receipt_of, bytes_after}
 use Rattle.sites.specs.declared.note.Note.{Note}
+use Rattle.sites.specs.declared.note.NoteKind.{NoteKind}
+use Rattle.sites.specs.declared.note.NoteKind.TheVariants.{Raise, Receipt}
 use Rattle.sites.specs.declared.site.Taking.{Taking}
 use Rattle.sites.specs.Line.{System, swapped, Reached}
 use Rattle.sites.specs.Exchange.{a_works}
 use Rattle.sites.specs.declared.site.Site.{Site}
-use Rattle.sites.specs.declared.site.Taken.{Taken}
-use Rattle.sites.specs.declared.site.Taken.TheVariants as takens
-use Rattle.sites.specs.declared.site.Sending.TheVariants as sendings
+use Rattle.sites.specs.declared.site.NoteRefused.{NoteRefused}
 use Rattle.sites.proofs.Running.{reached_on, reached_swap, half_steps}
 use Rattle.sites.proofs.Turning.{Turned, turned_work, turned_reached, turned_nothing, turned_half, next_raised, turned_note, Delivered, delivered}
 use Rattle.exchange.specs.Mail.{blank, Keeps}
@@ -36,13 +37,13 @@ pub turning_begins : (w : Desk) → Turning w w 0
 turning_begins w f g q session x r works same = (a_works w.first x, record { a = refl; b = same }, turned_work works)
 
 -- what is written fills the 12 lent bytes and no more,
-sent_whole : {x : Site} {from e : ℕ} {l : List ℕ} → Sends x from blank (sendings.Note e) l → take note_length l ≡ l
+sent_whole : {x : Site} {from e : ℕ} {l : List ℕ} → Sends x from blank (Ok (Some e)) l → take note_length l ≡ l
 sent_whole {x} {from} {e} {l} sends = take_all note_length l (omega (arith, ap length sends.bytes ∙ length-sets blank 0 (note_bytes (raise_of x e))))
 
-bytes_length : (t : Taken) (l : List ℕ) (n : Note) → length (bytes_after t l n) ≡ length l
-bytes_length takens.Raise l n = length-sets l 0 (note_bytes (receipt_of n))
-bytes_length takens.Receipt l n = refl
-bytes_length (takens.Refused why) l n = refl
+bytes_length : (t : Result NoteKind NoteRefused) (l : List ℕ) (n : Note) → length (bytes_after t l n) ≡ length l
+bytes_length (Ok Raise) l n = length-sets l 0 (note_bytes (receipt_of n))
+bytes_length (Ok Receipt) l n = refl
+bytes_length (Err why) l n = refl
 
 taken_whole : {x : Site} {b l : List ℕ} {t : Taking} → Takes x b blank t l → take note_length l ≡ l
 taken_whole {b = b} {l = l} {t = t} takes =
@@ -53,14 +54,14 @@ room = omega arith
 
 -- A note that goes to the other site in a state reached is a raise there, and its receipt comes back.
 receipt_back : {f g : List ℕ} {q : Request} {session from e : ℕ} {y : System} {d d' : Desk} {bytes : List ℕ} → Reached f g q session y → At y d →
-    Sends y.a.site from blank (sendings.Note e) bytes → (ex : Exchanged d bytes d') → Returned takens.Raise ex.receipt d.first d'.first
+    Sends y.a.site from blank (Ok (Some e)) bytes → (ex : Exchanged d bytes d') → Returned (Ok Raise) ex.receipt d.first d'.first
 receipt_back {d = d} {d'} {bytes} reached at sends ex = subst (λ t. Returned t ex.receipt d.first d'.first)
     (next_raised reached sends (sent_whole sends) room (subst (λ s. Takes s bytes blank (record { answer = ex.answer; site = d'.second }) ex.receipt) (sym at.b) ex.there))
     ex.back
 
 -- So a note there and its receipt back is delivered,
-note_delivered : {from e : ℕ} {y : System} {d d' : Desk} {bytes : List ℕ} → At y d → Sends y.a.site from blank (sendings.Note e) bytes → (ex : Exchanged d bytes d') →
-    Returned takens.Raise ex.receipt d.first d'.first → Delivered y.a.site y.b.site from e bytes ex.receipt d'.first d'.second
+note_delivered : {from e : ℕ} {y : System} {d d' : Desk} {bytes : List ℕ} → At y d → Sends y.a.site from blank (Ok (Some e)) bytes → (ex : Exchanged d bytes d') →
+    Returned (Ok Raise) ex.receipt d.first d'.first → Delivered y.a.site y.b.site from e bytes ex.receipt d'.first d'.second
 note_delivered {y = y} {d} {d'} {bytes} at sends ex (answer, back, takes) = record {
   lent = blank;
   written = bytes;
@@ -83,27 +84,23 @@ note_delivered {y = y} {d} {d'} {bytes} at sends ex (answer, back, takes) = reco
 
 -- then one more has had its turn,
 note_turned : {f g : List ℕ} {q : Request} {session from e n : ℕ} {x y : System} {d d' : Desk} {bytes : List ℕ} → Reached f g q session x → At y d → Turned session x y from →
-    Sends d.first from blank (sendings.Note e) bytes → Exchanged d bytes d' → n ≡ e + 1 → (z : System) × At z d' × Turned session x z n
+    Sends d.first from blank (Ok (Some e)) bytes → Exchanged d bytes d' → n ≡ e + 1 → (z : System) × At z d' × Turned session x z n
 note_turned {from = from} {e} {x = x} {y} {d} {d'} {bytes} reached at turned sends ex next =
-    let sends : Sends y.a.site from blank (sendings.Note e) bytes = subst (λ s. Sends s from blank (sendings.Note e) bytes) (sym at.a) sends in (
+    let sends : Sends y.a.site from blank (Ok (Some e)) bytes = subst (λ s. Sends s from blank (Ok (Some e)) bytes) (sym at.a) sends in (
       delivered y bytes ex.receipt d'.first d'.second,
       record { a = refl; b = refl },
       subst (Turned _ x _) (sym next) (turned_note reached turned (note_delivered at sends ex (receipt_back (turned_reached reached turned) at sends ex))),
     )
 
-nothing_turned : {session from n : ℕ} {x y : System} {d d' : Desk} {bytes : List ℕ} → At y d → Turned session x y from →
-    Sends d.first from blank sendings.Nothing bytes → d'.first ≡ d.first → d'.second ≡ d.second → n ≡ entries → (z : System) × At z d' × Turned session x z n
-nothing_turned {from = from} {x = x} {y} {bytes = bytes} at turned sends first second next = (
-  y,
-  record { a = at.a ∙ sym first; b = at.b ∙ sym second },
-  subst (Turned _ x y) (sym next) (turned_nothing turned (subst (λ s. Sends s from blank sendings.Nothing bytes) (sym at.a) sends)),
-)
-
-pub turning_next : (w d : Desk) {from : ℕ} {r : Sent} → Turning w d from → SentNext d from r → Turning w r.desk r.next
-turning_next w d t (SentNext.nothing bytes sends first second next) f g q session x reached works same =
-    let (y, at, turned) = t f g q session x reached works same in nothing_turned at turned sends first second next
-turning_next w d t (SentNext.note e bytes sends ex next) f g q session x reached works same =
+pub turning_next : (w d : Desk) {from : ℕ} {s : Sent} → Turning w d from → SentNext d from (Some s) → Turning w s.desk s.next
+turning_next w d t (e, bytes, sends, ex, next) f g q session x reached works same =
     let (y, at, turned) = t f g q session x reached works same in note_turned reached at turned sends ex next
+
+-- when the first site has none left, all had theirs,
+pub turning_last : (w d : Desk) {from : ℕ} → Turning w d from → SentNext d from None → Turning w d entries
+turning_last w d {from} t (bytes, sends) f g q session x reached works same =
+    let (y, at, turned) = t f g q session x reached works same in
+    (y, at, turned_nothing turned (subst (λ s. Sends s from blank (Ok None) bytes) (sym at.a) sends))
 
 -- and when all have, it is a half of the theorem's.
 pub turning_done : (d d' : Desk) {from : ℕ} {r : Done} → entries ≤ from → Worked d r → Turning r.desk d' from → HalfDone d d'
@@ -119,26 +116,26 @@ halves_full d d' d'' there back f g q session x reached at =
     (swapped z, record { a = end.b; b = end.a }, record { middle = y; there = half; back = other })
 
 -- The receipt of a raise comes back,
-pub returned_raise : {receipt bytes : List ℕ} {x x' : Site} {answer : Taken} (t : Taken) → is_raise t ≡ true →
+pub returned_raise : {receipt bytes : List ℕ} {x x' : Site} {answer : Result NoteKind NoteRefused} (t : Result NoteKind NoteRefused) → is_raise t ≡ true →
     Takes x receipt blank (record { answer = answer; site = x' }) bytes → Returned t receipt x x'
-returned_raise {bytes = bytes} {answer = answer} takens.Raise e takes = (answer, bytes, takes)
-returned_raise takens.Receipt e takes = absurd (true≢false (sym e))
-returned_raise (takens.Refused why) e takes = absurd (true≢false (sym e))
+returned_raise {bytes = bytes} {answer = answer} (Ok Raise) e takes = (answer, bytes, takes)
+returned_raise (Ok Receipt) e takes = absurd (true≢false (sym e))
+returned_raise (Err why) e takes = absurd (true≢false (sym e))
 
 -- and without a receipt the site stays.
-pub returned_none : (receipt : List ℕ) (x : Site) (t : Taken) → is_raise t ≡ false → Returned t receipt x x
-returned_none receipt x takens.Raise e = absurd (true≢false e)
-returned_none receipt x takens.Receipt e = refl
-returned_none receipt x (takens.Refused why) e = refl
+pub returned_none : (receipt : List ℕ) (x : Site) (t : Result NoteKind NoteRefused) → is_raise t ≡ false → Returned t receipt x x
+returned_none receipt x (Ok Raise) e = absurd (true≢false e)
+returned_none receipt x (Ok Receipt) e = refl
+returned_none receipt x (Err why) e = refl
 
 -- So it is with what is kept.
-pub keeps_raise : {notes receipt notes' : List ℕ} {count count' : ℕ} (t : Taken) → is_raise t ≡ true → Keeps notes count receipt count' notes' →
+pub keeps_raise : {notes receipt notes' : List ℕ} {count count' : ℕ} (t : Result NoteKind NoteRefused) → is_raise t ≡ true → Keeps notes count receipt count' notes' →
     KeepsReceipt t notes count receipt count' notes'
-keeps_raise takens.Raise e keeps = keeps
-keeps_raise takens.Receipt e keeps = absurd (true≢false (sym e))
-keeps_raise (takens.Refused why) e keeps = absurd (true≢false (sym e))
+keeps_raise (Ok Raise) e keeps = keeps
+keeps_raise (Ok Receipt) e keeps = absurd (true≢false (sym e))
+keeps_raise (Err why) e keeps = absurd (true≢false (sym e))
 
-pub keeps_no_receipt : (notes receipt : List ℕ) (count : ℕ) (t : Taken) → is_raise t ≡ false → KeepsReceipt t notes count receipt count notes
-keeps_no_receipt notes receipt count takens.Raise e = absurd (true≢false e)
-keeps_no_receipt notes receipt count takens.Receipt e = (refl, refl)
-keeps_no_receipt notes receipt count (takens.Refused why) e = (refl, refl)
+pub keeps_no_receipt : (notes receipt : List ℕ) (count : ℕ) (t : Result NoteKind NoteRefused) → is_raise t ≡ false → KeepsReceipt t notes count receipt count notes
+keeps_no_receipt notes receipt count (Ok Raise) e = absurd (true≢false e)
+keeps_no_receipt notes receipt count (Ok Receipt) e = (refl, refl)
+keeps_no_receipt notes receipt count (Err why) e = (refl, refl)

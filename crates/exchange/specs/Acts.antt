@@ -1,31 +1,31 @@
 -- What each act makes of two sites: document 01, "Two sites", by what the sites' own functions promise.
-use Rattle.std.specs.Prelude.{◌≡◌, Bool, true, false, List, ℕ, ◌+◌, ◌%◌}
-use Rattle.wac.specs.Limits.{entries}
+use Rattle.std.specs.Prelude.{◌≡◌, Bool, true, false, List, ℕ, ◌+◌, ◌%◌, Option, Some, None, Result, Ok, Err}
 use Rattle.decision.specs.declared.request.Request.{Request}
 use Rattle.sites.specs.Site.{Works, Takes, Sends}
 use Rattle.sites.specs.Line.{System, Reached}
 use Rattle.sites.specs.Exchange.{Half, Full}
+use Rattle.sites.specs.declared.note.NoteKind.{NoteKind}
+use Rattle.sites.specs.declared.note.NoteKind.TheVariants.{Raise, Receipt}
 use Rattle.sites.specs.declared.site.Site.{Site}
-use Rattle.sites.specs.declared.site.Taken.{Taken}
-use Rattle.sites.specs.declared.site.Taken.TheVariants as takens
+use Rattle.sites.specs.declared.site.NoteRefused.{NoteRefused}
 use Rattle.sites.specs.declared.site.Taking.{Taking}
-use Rattle.sites.specs.declared.site.Sending.TheVariants as sendings
 use Rattle.lines.specs.declared.act.Outcome.TheVariants as outcomes
 use Rattle.exchange.specs.Mail.{blank, kept_as, Keeps}
 use Rattle.exchange.specs.declared.desk.Desk.{Desk}
 use Rattle.exchange.specs.declared.desk.Done.{Done}
 use Rattle.exchange.specs.declared.desk.Delivery.{Delivery}
 use Rattle.exchange.specs.declared.desk.Sent.{Sent}
+use Rattle.exchange.specs.declared.desk.Written.{Written}
 
 -- the two sites in each other's places
 abbrev pub swapped_desk : Desk → Desk
 swapped_desk d = record { first = d.second; second = d.first; first_count = d.second_count; second_count = d.first_count }
 
 -- is there a receipt?
-abbrev pub is_raise : Taken → Bool
-is_raise takens.Raise = true
-is_raise takens.Receipt = false
-is_raise (takens.Refused why) = false
+abbrev pub is_raise : Result NoteKind NoteRefused → Bool
+is_raise (Ok Raise) = true
+is_raise (Ok Receipt) = false
+is_raise (Err why) = false
 
 -- the desk with another first site, and so many notes of it kept
 abbrev pub with_first : Site → ℕ → Desk → Desk
@@ -38,11 +38,16 @@ pub record Worked (d : Desk) (r : Done) : Type 0 where
   pub desk : r.desk ≡ with_first site d.first_count d
   pub outcome : r.outcome ≡ outcomes.Quiet
 
+-- the next note that a site has to send from an entry on, with its entry; or there is none
+abbrev pub NextNote : Site → ℕ → Option Written → Type 0
+NextNote x from (Some w) = Sends x from blank (Ok (Some w.entry)) w.note
+NextNote x from None = (bytes : List ℕ) × Sends x from blank (Ok None) bytes
+
 -- the first site writes its next note from an entry on, which is kept; or has none
 pub data Wrote (d : Desk) (from : ℕ) (notes : List ℕ) (r : Done) (notes' : List ℕ) : Type 0 where
-  note : (e count : ℕ) (bytes : List ℕ) → Sends d.first from blank (sendings.Note e) bytes → Keeps notes d.first_count bytes count notes' →
+  note : (e count : ℕ) (bytes : List ℕ) → Sends d.first from blank (Ok (Some e)) bytes → Keeps notes d.first_count bytes count notes' →
       r.desk ≡ with_first d.first count d → r.outcome ≡ outcomes.Note e → Wrote d from notes r notes'
-  nothing : (bytes : List ℕ) → Sends d.first from blank sendings.Nothing bytes → notes' ≡ notes → r.desk ≡ d → r.outcome ≡ outcomes.Nothing →
+  nothing : (bytes : List ℕ) → Sends d.first from blank (Ok None) bytes → notes' ≡ notes → r.desk ≡ d → r.outcome ≡ outcomes.Nothing →
       Wrote d from notes r notes'
 
 -- a note is brought to a site
@@ -50,10 +55,10 @@ pub record Delivers (x : Site) (note : List ℕ) (r : Delivery) : Type 0 where
   pub takes : Takes x note blank (record { answer = r.answer; site = r.site }) r.receipt
 
 -- the receipt of a raise is kept; without one nothing is
-abbrev pub KeepsReceipt : Taken → List ℕ → ℕ → List ℕ → ℕ → List ℕ → Type 0
-KeepsReceipt takens.Raise notes count receipt count' notes' = Keeps notes count receipt count' notes'
-KeepsReceipt takens.Receipt notes count receipt count' notes' = (count' ≡ count) × (notes' ≡ notes)
-KeepsReceipt (takens.Refused why) notes count receipt count' notes' = (count' ≡ count) × (notes' ≡ notes)
+abbrev pub KeepsReceipt : Result NoteKind NoteRefused → List ℕ → ℕ → List ℕ → ℕ → List ℕ → Type 0
+KeepsReceipt (Ok Raise) notes count receipt count' notes' = Keeps notes count receipt count' notes'
+KeepsReceipt (Ok Receipt) notes count receipt count' notes' = (count' ≡ count) × (notes' ≡ notes)
+KeepsReceipt (Err why) notes count receipt count' notes' = (count' ≡ count) × (notes' ≡ notes)
 
 -- a note is brought to the first site, and the receipt that it writes is kept
 pub record Brought (d : Desk) (note notes : List ℕ) (r : Done) (notes' : List ℕ) : Type 0 where
@@ -72,22 +77,22 @@ pub data PassedOn (d : Desk) (n : ℕ) (firsts seconds : List ℕ) (r : Done) (s
       PassedOn d n firsts seconds r seconds'
 
 -- a raise's receipt is brought back to the site; without a receipt it does not change
-abbrev pub Returned : Taken → List ℕ → Site → Site → Type 0
-Returned takens.Raise receipt x x' = (answer : Taken) × (bytes : List ℕ) × Takes x receipt blank (record { answer = answer; site = x' }) bytes
-Returned takens.Receipt receipt x x' = x' ≡ x
-Returned (takens.Refused why) receipt x x' = x' ≡ x
+abbrev pub Returned : Result NoteKind NoteRefused → List ℕ → Site → Site → Type 0
+Returned (Ok Raise) receipt x x' = (answer : Result NoteKind NoteRefused) × (bytes : List ℕ) × Takes x receipt blank (record { answer = answer; site = x' }) bytes
+Returned (Ok Receipt) receipt x x' = x' ≡ x
+Returned (Err why) receipt x x' = x' ≡ x
 
 -- a note of the first site is brought to the second, and the receipt comes back
 pub record Exchanged (d : Desk) (note : List ℕ) (d' : Desk) : Type 0 where
-  pub answer : Taken
+  pub answer : Result NoteKind NoteRefused
   pub receipt : List ℕ
   pub there : Takes d.second note blank (record { answer = answer; site = d'.second }) receipt
   pub back : Returned answer receipt d.first d'.first
 
 -- the first site's next note from an entry on goes to the second and its receipt comes back, and the next is looked for from the entry after it on; or there is none
-pub data SentNext (d : Desk) (from : ℕ) (r : Sent) : Type 0 where
-  note : (e : ℕ) (bytes : List ℕ) → Sends d.first from blank (sendings.Note e) bytes → Exchanged d bytes r.desk → r.next ≡ e + 1 → SentNext d from r
-  nothing : (bytes : List ℕ) → Sends d.first from blank sendings.Nothing bytes → r.desk.first ≡ d.first → r.desk.second ≡ d.second → r.next ≡ entries → SentNext d from r
+abbrev pub SentNext : Desk → ℕ → Option Sent → Type 0
+SentNext d from (Some s) = (e : ℕ) × (bytes : List ℕ) × Sends d.first from blank (Ok (Some e)) bytes × Exchanged d bytes s.desk × (s.next ≡ e + 1)
+SentNext d from None = NextNote d.first from None
 
 -- the sites of a state are those on the desk
 pub record At (x : System) (d : Desk) : Type 0 where

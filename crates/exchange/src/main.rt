@@ -16,224 +16,176 @@
 mod desk;
 mod mail;
 
-ghost use Rattle.std.specs.Prelude.{◌≤◌, ◌<◌, length};
+ghost use Rattle.std.specs.Prelude.{◌<◌, length, IfSome};
 
+use decision::Request;
 use desk::{Desk, Done};
-use lines::{Line, Outcome, Unopened};
-use sites::{Note, Opened, Site};
+use lines::{Line, Unopened};
+use sites::Site;
 
 // The bytes before the length of A's file.
 const HEAD: usize = 11;
 
-// The number that two bytes make, high byte first.
-fn half_of(high: u8, low: u8) -> usize
-    ensures { result < 65536 }
-{
-    high as usize * 256 + low as usize
+// More bytes than the length of a file can say.
+const FILE: usize = 65536;
+
+// Fills the lent bytes from standard input, where it has as many.
+fn fill(rt: &HostRuntime, bytes: &mut [u8]) -> Option<()> {
+    match lines::read_input(rt, bytes) {
+        Ok(count) if count == bytes.len() => Some(()),
+        _ => None,
+    }
 }
 
-// A number of 2 bytes from standard input, and whether it was there.
+// The next bytes of standard input, where it has as many.
+fn read_bytes<const N: usize>(rt: &HostRuntime) -> Option<[u8; N]> {
+    let mut bytes = [0; N];
+    fill(rt, &mut bytes)?;
+    Some(bytes)
+}
+
+// A number in 2 bytes from standard input, high byte first, where it stands there whole.
+fn read_number(rt: &HostRuntime) -> Option<usize>
+    ensures { IfSome result (λ n. n < 65536) }
+{
+    let bytes = read_bytes(rt)?;
+    Some(usize::from(u16::from_be_bytes(bytes)))
+}
+
+// A file from standard input after its length, where it stands there whole: the first of the lent bytes.
+fn read_file<'a>(rt: &HostRuntime, lent: &'a mut [u8; FILE]) -> Option<&'a [u8]>
+    ensures { IfSome result (λ file. length file.now < 65536) }
+{
+    let length = read_number(rt)?;
+    let file = &mut lent[..length];
+    fill(rt, file)?;
+    Some(file)
+}
+
+// What an act does.
 #[derive(Clone, Copy)]
-struct Number {
-    whole: bool,
-    value: usize,
+enum Act {
+    Works,
+    Writes,
+    PassesOn,
+    Exchanges,
+    Brings,
 }
 
-fn read_number(rt: &HostRuntime) -> Number
-    ensures { result.value < 65536 }
-{
-    let mut bytes = [0u8; 2];
-    if lines::read_input(rt, &mut bytes).count < 2 {
-        return Number {
-            whole: false,
-            value: 0,
-        };
-    }
-    Number {
-        whole: true,
-        value: half_of(bytes[0], bytes[1]),
-    }
-}
-
-// A file from standard input after its length: the length, and whether it was there.
-fn read_file(rt: &HostRuntime, file: &mut [u8]) -> Number
-    ensures { result.value < 65536 }
-{
-    let length = read_number(rt);
-    if !length.whole {
-        return length;
-    }
-    let value = length.value;
-    if file.len() < value {
-        return length;
-    }
-    let input = lines::read_input(rt, &mut file[..value]);
-    Number {
-        whole: input.count == value,
-        value: value,
-    }
-}
-
-// What comes of an act, or that it does not stand there whole.
+// A number that stands for no act.
 #[derive(Clone, Copy)]
-struct Turn {
-    done: Done,
-    ended: bool,
+struct UnknownAct;
+
+impl TryFrom<u8> for Act {
+    type Error = UnknownAct;
+
+    fn try_from(number: u8) -> Result<Self, UnknownAct> {
+        match number {
+            0 => Ok(Act::Works),
+            1 => Ok(Act::Writes),
+            2 => Ok(Act::PassesOn),
+            3 => Ok(Act::Exchanges),
+            4 => Ok(Act::Brings),
+            _ => Err(UnknownAct),
+        }
+    }
 }
 
-// Nothing comes of an act.
-fn ended(desk: Desk) -> Turn {
-    let done = Done {
-        desk: desk,
-        outcome: Outcome::Quiet,
+// An act of the first site, where what it needs stands whole on standard input.
+fn act_first(
+    rt: &HostRuntime,
+    desk: Desk,
+    act: Act,
+    first: &mut [u8],
+    second: &mut [u8],
+) -> Option<Done> {
+    let done = match act {
+        Act::Works => desk.works(),
+        Act::Writes => desk.writes(read_number(rt)?, first),
+        Act::PassesOn => desk.passes_on(read_number(rt)?, first, second),
+        Act::Exchanges => desk.exchanges(first, second),
+        Act::Brings => desk.brings(read_bytes(rt)?, first),
     };
-    Turn {
-        done: done,
-        ended: true,
-    }
+    Some(done)
 }
 
-// This comes of an act.
-fn acted(done: Done) -> Turn {
-    Turn {
-        done: done,
-        ended: false,
+// The next act, where it stands whole on standard input: the even ones are A's, the odd ones B's.
+fn next_act(rt: &HostRuntime, desk: Desk, a: &mut [u8], b: &mut [u8]) -> Option<Done> {
+    let [byte] = read_bytes::<1>(rt)?;
+    let act = Act::try_from(byte / 2).ok()?;
+    if byte % 2 == 0 {
+        return act_first(rt, desk, act, a, b);
     }
-}
-
-// An act of the first site with a number after it.
-fn numbered(rt: &HostRuntime, desk: Desk, kind: u8, first: &mut [u8], second: &mut [u8]) -> Turn {
-    let number = read_number(rt);
-    if !number.whole {
-        return ended(desk);
-    }
-    if kind == 1 {
-        return acted(desk::writes(desk, number.value, first));
-    }
-    acted(desk::passes_on(desk, number.value, first, second))
-}
-
-// A note from standard input is brought to the first site.
-fn brought(rt: &HostRuntime, desk: Desk, first: &mut [u8]) -> Turn {
-    let mut note = [0u8; Note::BYTES];
-    if lines::read_input(rt, &mut note).count < Note::BYTES {
-        return ended(desk);
-    }
-    acted(desk::brings(desk, note, first))
-}
-
-// An act of the first site: works, writes, has a note brought to the other, exchanges, is brought a note.
-fn act_first(rt: &HostRuntime, desk: Desk, kind: u8, first: &mut [u8], second: &mut [u8]) -> Turn {
-    if kind == 0 {
-        return acted(desk::works(desk));
-    }
-    if kind == 3 {
-        return acted(desk::exchanges(desk, first, second));
-    }
-    if kind == 4 {
-        return brought(rt, desk, first);
-    }
-    if kind == 1 || kind == 2 {
-        return numbered(rt, desk, kind, first, second);
-    }
-    ended(desk)
-}
-
-// An act: the even ones are A's, the odd ones B's.
-fn act_on(rt: &HostRuntime, desk: Desk, act: u8, a: &mut [u8], b: &mut [u8]) -> Turn {
-    if act % 2 == 0 {
-        return act_first(rt, desk, act / 2, a, b);
-    }
-    let turn = act_first(rt, desk::swapped(desk), act / 2, b, a);
-    let done = turn.done;
-    let after = done.desk;
-    let outcome = done.outcome;
-    let back = Done {
-        desk: desk::swapped(after),
-        outcome: outcome,
-    };
-    Turn {
-        done: back,
-        ended: turn.ended,
-    }
+    let Done { desk, outcome } = act_first(rt, desk.swapped(), act, b, a)?;
+    Some(Done {
+        desk: desk.swapped(),
+        outcome,
+    })
 }
 
 // Prints the line after an act, and says whether it could.
 fn tells(rt: &(impl Print + Eprint), done: Done) -> bool {
-    let desk = done.desk;
-    let outcome = done.outcome;
-    let a = desk.first;
-    let b = desk.second;
-    let mut line = [0u8; Line::ROOM];
-    let lined = lines::act_line(a, b, outcome, &mut line);
-    lines::print(rt, lined, &line).whole
+    let Done { desk, outcome } = done;
+    let mut line = [0; Line::ROOM];
+    let lined = lines::act_line(desk.first, desk.second, outcome, &mut line);
+    lines::print(rt, lined, &line).is_ok()
 }
 
 // Prints the line of two sites that were not opened.
 fn declines(rt: &(impl Print + Eprint), why: Unopened) {
-    let mut line = [0u8; Line::ROOM];
+    let mut line = [0; Line::ROOM];
     let lined = lines::opening_line(why, &mut line);
-    lines::print(rt, lined, &line);
+    let _ = lines::print(rt, lined, &line);
 }
 
 // The acts, until the input ends or an act does not stand there whole. A proved loop has to end, and
 // nothing says that the input does: the loop counts its turns, to a number that no run uses up.
-fn run(rt: &HostRuntime, a: Site, b: Site) {
-    let mut a_notes = [0u8; mail::BYTES];
-    let mut b_notes = [0u8; mail::BYTES];
-    let mut desk = Desk {
-        first: a,
-        second: b,
-        first_count: 0,
-        second_count: 0,
-    };
+fn run(rt: &HostRuntime, mut desk: Desk) {
+    let mut a_notes = [0; mail::BYTES];
+    let mut b_notes = [0; mail::BYTES];
     for _ in 0..u64::MAX {
-        let mut act = [0u8; 1];
-        if lines::read_input(rt, &mut act).count < 1 {
+        let Some(done) = next_act(rt, desk, &mut a_notes, &mut b_notes) else {
+            return;
+        };
+        if !tells(rt, done) {
             return;
         }
-        let turn = act_on(rt, desk, act[0], &mut a_notes, &mut b_notes);
-        let done = turn.done;
-        let after = done.desk;
-        if turn.ended || !tells(rt, done) {
-            return;
-        }
-        desk = after;
+        desk = done.desk;
     }
 }
 
-// Opens A and then B, and runs the acts.
-fn open_both(rt: &HostRuntime, head: &[u8], a_file: &[u8], b_file: &[u8])
-    requires { 11 ≤ length head.now }
-{
-    let at = wac::word_of(head[3], head[4], head[5], head[6]);
+// Opens A and then B on what stands before the acts, or says why not.
+fn open_both(head: [u8; HEAD], a_file: &[u8], b_file: &[u8]) -> Result<Desk, Unopened> {
+    let request = Request {
+        owner: head[0],
+        asker: head[1],
+        rights: head[2],
+        at: wac::word_of(head[3], head[4], head[5], head[6]),
+    };
     let session = wac::word_of(head[7], head[8], head[9], head[10]);
-    let a = sites::open(a_file, head[0], head[1], head[2], at, session);
-    let b = sites::open(b_file, head[0], head[1], head[2], at, session);
-    let a_answer = a.answer;
-    let b_answer = b.answer;
-    let a_site = a.site;
-    let b_site = b.site;
-    if let Opened::Refused(why) = a_answer {
-        return declines(rt, Unopened::First(why));
-    }
-    if let Opened::Refused(why) = b_answer {
-        return declines(rt, Unopened::Second(why));
-    }
-    run(rt, a_site, b_site);
+    let a = Site::open(a_file, request, session);
+    let b = Site::open(b_file, request, session);
+    a.answer.map_err(Unopened::First)?;
+    b.answer.map_err(Unopened::Second)?;
+    Ok(Desk {
+        first: a.site,
+        second: b.site,
+        first_count: 0,
+        second_count: 0,
+    })
 }
 
 fn main(rt: HostRuntime) {
-    let mut head = [0u8; HEAD];
-    let mut a_file = io::large_buffer();
-    let mut b_file = io::large_buffer();
-    let got = lines::read_input(&rt, &mut head).count;
-    let a = read_file(&rt, &mut a_file);
-    let b = read_file(&rt, &mut b_file);
-    if got < HEAD || !a.whole || !b.whole {
+    let mut a_lent = io::large_buffer();
+    let mut b_lent = io::large_buffer();
+    let head = read_bytes(&rt);
+    let a_file = read_file(&rt, &mut a_lent);
+    let b_file = read_file(&rt, &mut b_lent);
+    let (Some(head), Some(a_file), Some(b_file)) = (head, a_file, b_file) else {
         return declines(&rt, Unopened::CutShort);
+    };
+    match open_both(head, a_file, b_file) {
+        Ok(desk) => run(&rt, desk),
+        Err(why) => declines(&rt, why),
     }
-    let a_length = a.value;
-    let b_length = b.value;
-    open_both(&rt, &head, &a_file[..a_length], &b_file[..b_length]);
 }

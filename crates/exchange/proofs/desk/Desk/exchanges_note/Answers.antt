@@ -1,7 +1,7 @@
 -- `exchanges_note` meets its contract: the note is taken, and its receipt if there is one.
 use mathlib.Core.Path.{sym, ◌∙◌}
 use Rattle.exchange.proofs.Halves.{returned_raise, returned_none}
-use Rattle.exchange.proofs.desk.exchanges_note.Goals as goal
+use Rattle.exchange.proofs.desk.Desk.exchanges_note.Goals as goal
 
 pub returns-then-is_raise : goal.returns-then-is_raise
 returns-then-is_raise c =
