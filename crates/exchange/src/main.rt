@@ -20,7 +20,7 @@ ghost use Rattle.std.specs.Prelude.{◌<◌, length, IfSome};
 
 use decision::Request;
 use desk::{Desk, Done};
-use lines::{Line, Unopened};
+use lines::{Failed, Line, Unopened};
 use sites::Site;
 
 // The bytes before the length of A's file.
@@ -123,12 +123,12 @@ fn next_act(rt: &HostRuntime, desk: Desk, a: &mut [u8], b: &mut [u8]) -> Option<
     })
 }
 
-// Prints the line after an act, and says whether it could.
-fn tells(rt: &(impl Print + Eprint), done: Done) -> bool {
+// Prints the line after an act.
+fn tells(rt: &(impl Print + Eprint), done: Done) -> Result<usize, Failed> {
     let Done { desk, outcome } = done;
     let mut line = [0; Line::ROOM];
     let lined = lines::act_line(desk.first, desk.second, outcome, &mut line);
-    lines::print(rt, lined, &line).is_ok()
+    lines::print(rt, lined, &line)
 }
 
 // Prints the line of two sites that were not opened.
@@ -138,8 +138,9 @@ fn declines(rt: &(impl Print + Eprint), why: Unopened) {
     let _ = lines::print(rt, lined, &line);
 }
 
-// The acts, until the input ends or an act does not stand there whole. A proved loop has to end, and
-// nothing says that the input does: the loop counts its turns, to a number that no run uses up.
+// The acts, until the input ends, an act does not stand there whole or a line cannot be printed. A proved
+// loop has to end, and nothing says that the input does: the loop counts its turns, to a number that no
+// run uses up.
 fn run(rt: &HostRuntime, mut desk: Desk) {
     let mut a_notes = [0; mail::BYTES];
     let mut b_notes = [0; mail::BYTES];
@@ -147,7 +148,7 @@ fn run(rt: &HostRuntime, mut desk: Desk) {
         let Some(done) = next_act(rt, desk, &mut a_notes, &mut b_notes) else {
             return;
         };
-        if !tells(rt, done) {
+        if tells(rt, done).is_err() {
             return;
         }
         desk = done.desk;
@@ -156,13 +157,14 @@ fn run(rt: &HostRuntime, mut desk: Desk) {
 
 // Opens A and then B on what stands before the acts, or says why not.
 fn open_both(head: [u8; HEAD], a_file: &[u8], b_file: &[u8]) -> Result<Desk, Unopened> {
+    let [owner, asker, rights, t0, t1, t2, t3, s0, s1, s2, s3] = head;
     let request = Request {
-        owner: head[0],
-        asker: head[1],
-        rights: head[2],
-        at: wac::word_of(head[3], head[4], head[5], head[6]),
+        owner,
+        asker,
+        rights,
+        at: wac::word_of(t0, t1, t2, t3),
     };
-    let session = wac::word_of(head[7], head[8], head[9], head[10]);
+    let session = wac::word_of(s0, s1, s2, s3);
     let a = Site::open(a_file, request, session);
     let b = Site::open(b_file, request, session);
     a.answer.map_err(Unopened::First)?;
