@@ -24,8 +24,11 @@ use Rattle.rewriting.proofs.Words.{arrival_place}
 use Rattle.rewriting.proofs.Held.{reading_fits}
 use Rattle.decision.specs.Usable.{symbols_of}
 use Rattle.decision.specs.Lens.{weighing_of, question_by}
+use Rattle.decision.specs.Engine.{held}
 use Rattle.decision.specs.declared.lens.Lens.{Lens}
+use Rattle.decision.specs.declared.row.Row.{Row}
 use Rattle.decision.proofs.Choices.{when_true, when_false}
+use Rattle.decision.proofs.TableLaws.{list_held}
 
 -- the three identifier bytes
 abbrev ids : Cert → List ℕ
@@ -105,6 +108,10 @@ unfolding reading
 reading_asker lens a b t k [] p = refl
 reading_asker lens a b t k (s ∷ w) p =
     ap (over (weighing_of lens) keys) (fun_ext (λ r. ap ((weighing_of lens).along (t k s r)) (reading_asker lens a b t r w p)))
+
+-- a row's table is one as lent places hold it
+pub fine : (r : Row) → Held (question_by r.lens 0) (held r.lens r.table.now)
+fine r = list_held r.lens 0 r.table.now r.within
 
 -- what a place gives to the reading of a word from its symbol j on
 abbrev pub through : Question → Table → List ℕ → ℕ → ℕ → ℕ → ℕ → ℕ

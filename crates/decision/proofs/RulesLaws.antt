@@ -22,6 +22,7 @@ use Rattle.rewriting.proofs.Steps.{kept_lawful}
 use Rattle.decision.specs.Usable.{usable, symbols_of, rule_of, rules_of}
 use Rattle.decision.specs.Lens.{question_by, rules_by, live_by, weight_by}
 use Rattle.decision.specs.Engine.{Accepted}
+use Rattle.decision.specs.declared.inquiry.Inquiry.{Inquiry}
 use Rattle.decision.specs.declared.request.Request.{Request}
 use Rattle.decision.specs.declared.lens.Lens.{Lens}
 use Rattle.decision.specs.declared.lens.Lens.TheVariants.{Minutes, Steps}
@@ -73,6 +74,10 @@ rules_lawful lens s q bytes ok asker = turn lens
     turn : (lens : Lens) → Lawful (question_by lens q.asker) (rules_by lens s q)
     turn Minutes = by_minutes_lem
     turn (Steps floor) = kept_lawful by_minutes_lem minutes floor
+
+-- so are those of an inquiry
+pub inquiry_lawful : (x : Inquiry) (lens : Lens) → Lawful (question_by lens x.request.asker) (rules_by lens x.file.now x.request)
+inquiry_lawful x lens = rules_lawful lens x.file.now x.request x.bytes x.ready.accepted x.ready.asker
 
 -- a test for the greater of two
 max_test : (m w : ℕ) → eqb (max m w) w ≡ leb m w

@@ -12,6 +12,7 @@ use borrow.Author.Tests.{eq-eqb, eqb-true}
 use lib.Dec.{eqb}
 use lib.ListN.{length, get_or, take, drop, set, length-append}
 use lib.Seq.{sets, length-sets, drop-cons, drop-length, take-suc, take-length}
+use Rattle.std.proofs.lemmas.Grind.{not_there}
 use Rattle.wac.specs.Limits.{keys, chain_places, end_place}
 use Rattle.wac.specs.File.{count_of, cert_at}
 use Rattle.wac.specs.declared.cert.Cert.{Cert}
@@ -31,8 +32,10 @@ use Rattle.decision.specs.Table.{is_entry, table_of}
 use Rattle.decision.specs.Engine.{Accepted, Within, held}
 use Rattle.decision.specs.Writing.{steps_at, steps_read, StepsTable, brings, Bringing, Wrote, Entered, ReadBy}
 use Rattle.decision.specs.declared.request.Request.{Request}
+use Rattle.decision.specs.declared.entries.Entry.{Entry}
 use Rattle.decision.specs.declared.lens.Lens.TheVariants.{Minutes, Steps}
-use Rattle.decision.proofs.RulesLaws.{rules_live}
+use Rattle.decision.specs.declared.writing.LastSteps.{LastSteps}
+use Rattle.decision.proofs.RulesLaws.{rules_live, inquiry_lawful}
 use Rattle.decision.proofs.ReadingLaws.{reading_asker}
 
 -- steps go up to 201
@@ -55,15 +58,15 @@ abbrev pub passes : Request → ℕ → List ℕ → Cert → ℕ → ℕ → �
 passes q floor l c k x a =
     ((live_by (Steps floor) q c && eqb c.issuer k) && eqb c.left x) && eqb (steps_read floor l c 0 c.subject a + 1) (steps_at floor l k x a)
 
-module _ (s : List ℕ) (q : Request) (floor : ℕ) (l : List ℕ) (i k x a : ℕ) (c : Cert) (same : c ≡ cert_at s i) where
-  -- the definition's tests are these
-  pub brings_tests : brings s q floor l i k x a ≡ passes q floor l c k x a
-  unfolding brings fires kept rules_of
-  brings_tests =
-      let d = cert_at s i in
-      let read = eqb (steps_read floor l d 0 d.subject a + 1) (steps_at floor l k x a) in
-      ap (λ b. ((b && eqb d.issuer k) && eqb d.left x) && read) (rules_live (Steps floor) s q i)
-      ∙ ap (λ e. passes q floor l e k x a) (sym same)
+-- the definition's tests are these
+pub brings_tests : (t : LastSteps) (i : ℕ) (e : Entry) (c : Cert) → c ≡ cert_at t.inquiry.file.now i →
+    brings t.inquiry.file.now t.inquiry.request t.floor t.table.now i e.key e.symbol e.place ≡ passes t.inquiry.request t.floor t.table.now c e.key e.symbol e.place
+unfolding brings fires kept rules_of
+brings_tests t i e c same =
+    let d = cert_at t.inquiry.file.now i in
+    let read = eqb (steps_read t.floor t.table.now d 0 d.subject e.place + 1) (steps_at t.floor t.table.now e.key e.symbol e.place) in
+    ap (λ b. ((b && eqb d.issuer e.key) && eqb d.left e.symbol) && read) (rules_live (Steps t.floor) t.inquiry.file.now t.inquiry.request i)
+    ∙ ap (λ d. passes t.inquiry.request t.floor t.table.now d e.key e.symbol e.place) (sym same)
 
 -- a certificate that passes the test brings the entry about
 pub brings_fact : (s : List ℕ) (q : Request) (floor : ℕ) (l : List ℕ) (k x a i : ℕ) {r : Bool} → i < count_of s → r ≡ brings s q floor l i k x a → r ≡ true → Bringing s q floor l k x a i
@@ -86,6 +89,13 @@ module _ {s : List ℕ} {q : Request} {floor : ℕ} {l : List ℕ} {k x a i : �
   pub bringing_steps : {c : Cert} → c ≡ cert_at s i → steps_at floor l k x a ≡ suc (steps_read floor l c 0 c.subject a)
   bringing_steps same = b.steps ∙ ap (λ d. suc (steps_read floor l d 0 d.subject a)) (sym same)
 
+-- an equation that cannot fail holds, and so does a mark
+held_equal : (a b : ℕ) → ((a ≡ b → ⊥) → ⊥) → a ≡ b
+held_equal a b h = by_cases (ℕ_discrete a b) (λ e. e) (λ n. absurd (h n))
+
+held_mark : (x : ℕ) → ((Mark x → ⊥) → ⊥) → Mark x
+held_mark x h = by_cases (ℕ_discrete x 10) inl (λ n. by_cases (ℕ_discrete x 11) inr (λ m. absurd (h (⊎_elim n m))))
+
 -- the last table of steps of an accepted file
 module _ {s : List ℕ} {q : Request} {floor : ℕ} {l : List ℕ} (lawful : Lawful (question_by Minutes q.asker) (rules_by Minutes s q)) (table : StepsTable s q floor l) where
   -- the asker's own marks have no steps
@@ -107,29 +117,36 @@ module _ {s : List ℕ} {q : Request} {floor : ℕ} {l : List ℕ} (lawful : Law
       (steps_entry lawful minutes floor table.last k x a (omega arith))
 
   -- some certificate below the count brings about an entry that has steps
-  pub bringing_some : (k x a : ℕ) → steps_at floor l k x a ≤ chain_places → (steps_at floor l k x a ≡ 0 → ⊥) →
+  step_some : (k x a : ℕ) → steps_at floor l k x a ≤ chain_places → (steps_at floor l k x a ≡ 0 → ⊥) →
       ((i : ℕ) → i < count_of s → brings s q floor l i k x a ≡ false) → ⊥
   unfolding kept rules_of brings Step
-  bringing_some k x a h some none = ⊎_elim
+  step_some k x a h some none = ⊎_elim
       (λ o. some (own_none k x a o.0 o.1 o.2))
       (λ r.
       let yes : brings s q floor l r.0 k x a ≡ true = rw (fires_test r.1.fires) (eq-eqb _ _ (add-one _ ∙ sym r.1.steps)) in
       true≢false (sym yes ∙ none r.0 r.1.fires.there))
       (entry_step k x a h)
 
-  -- an entry of no steps is one of the asker's marks, and writes nothing
-  pub entry_none : (k x a : ℕ) {at n : ℕ} {ch : List ℕ} → n ≡ steps_at floor l k x a → n ≡ 0 → Wrote (Entered s q floor k x a) at (steps_at floor l k x a) ch ch at
+  -- an entry of no steps is one of the asker's marks
+  step_own : (k x a : ℕ) → steps_at floor l k x a ≡ 0 → (k ≡ q.asker) × Mark x × (a ≡ keys)
   unfolding Step
-  entry_none k x a is z = record {
-    list = [];
-    long = sym z ∙ is;
-    holds = ⊎_elim
-        (λ o. rw (o.0, o.2) (asked o.1))
-        (λ r. absurd (omega (arith, r.1.steps)))
-        (entry_step k x a (omega arith));
-    next = omega arith;
-    written = refl;
-  }
+  step_own k x a z = ⊎_elim (λ o. o) (λ r. absurd (omega (arith, r.1.steps))) (entry_step k x a (omega arith))
+
+module _ (t : LastSteps) where
+  -- some certificate of the file brings about an entry that has steps
+  pub bringing_some : (e : Entry) → steps_at t.floor t.table.now e.key e.symbol e.place ≤ chain_places → (steps_at t.floor t.table.now e.key e.symbol e.place ≡ 0 → ⊥) →
+      ((i : ℕ) → i < count_of t.inquiry.file.now → brings t.inquiry.file.now t.inquiry.request t.floor t.table.now i e.key e.symbol e.place ≡ false) → ⊥
+  bringing_some e h some none = not_there t.last (λ table. step_some (inquiry_lawful t.inquiry Minutes) table e.key e.symbol e.place h some none)
+
+  -- an entry of no steps is one of the asker's marks, and writes nothing
+  pub entry_none : (e : Entry) {at n : ℕ} {ch : List ℕ} → n ≡ steps_at t.floor t.table.now e.key e.symbol e.place → n ≡ 0 →
+      Wrote (Entered t.inquiry.file.now t.inquiry.request t.floor e.key e.symbol e.place) at (steps_at t.floor t.table.now e.key e.symbol e.place) ch ch at
+  entry_none e is z =
+      let own = λ (table : StepsTable t.inquiry.file.now t.inquiry.request t.floor t.table.now). step_own (inquiry_lawful t.inquiry Minutes) table e.key e.symbol e.place (sym is ∙ z) in
+      let key = held_equal e.key t.inquiry.request.asker (λ n. not_there t.last (λ table. n (own table).0)) in
+      let mark = held_mark e.symbol (λ n. not_there t.last (λ table. n (own table).1)) in
+      let place = held_equal e.place keys (λ n. not_there t.last (λ table. n (own table).2)) in
+      record { list = []; long = sym z ∙ is; holds = rw (key, place) (asked mark); next = omega arith; written = refl }
 
 -- symbol j of a certificate's right side goes to the place p in a best reading
 abbrev pub Goes : ℕ → List ℕ → Cert → ℕ → ℕ → ℕ → ℕ → Type 0

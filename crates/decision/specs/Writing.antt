@@ -1,7 +1,7 @@
 -- What the functions that write out the chain say: document 01, "Entries and passes", "each entry's own certificate first and then the entries its subject reads".
-use Rattle.std.specs.Prelude.{◌≡◌, Bool, ◌&&◌, List, ℕ, suc, ◌+◌, ◌<◌, ◌≤◌, eqb, length, drop}
+use Rattle.std.specs.Prelude.{◌≡◌, Bool, ◌&&◌, List, ℕ, suc, ◌+◌, ◌<◌, eqb, length, drop}
 use Rattle.std.proofs.lemmas.List.Edits.{sets}
-use Rattle.wac.specs.Limits.{keys, chain_places, subject_ids}
+use Rattle.wac.specs.Limits.{keys}
 use Rattle.wac.specs.File.{cert_at}
 use Rattle.wac.specs.declared.cert.Cert.{Cert}
 use Rattle.rewriting.specs.Entries.{Fires, Brings, Reads}
@@ -38,13 +38,6 @@ brings s q floor l i k x a =
 pub record Bringing (s : List ℕ) (q : Request) (floor : ℕ) (l : List ℕ) (k x a i : ℕ) : Type 0 where
   pub fires : Fires (rules_by (Steps floor) s q) i k x
   pub steps : steps_at floor l k x a ≡ suc (steps_read floor l (cert_at s i) 0 (cert_at s i).subject a)
-
--- a certificate's right side can be read from its symbol j on in at most 200 steps
-pub record Onward (floor : ℕ) (l : List ℕ) (c : Cert) (j from to : ℕ) : Type 0 where
-  pub within : Within (Steps floor) l
-  pub subject : c.count ≤ subject_ids
-  pub symbols : j ≤ length (symbols_of c)
-  pub short : steps_read floor l c j from to ≤ chain_places
 
 -- n places were written from `at` on with a list of which P holds, and r is the place after them
 pub record Wrote (P : List ℕ → Type 0) (at n : ℕ) (c c' : List ℕ) (r : ℕ) : Type 0 where

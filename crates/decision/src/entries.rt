@@ -1,10 +1,8 @@
-// Entries by their numbers, in a lent list of weights.
-ghost use Rattle.std.specs.Prelude.{◌≡◌, true, ◌<◌, ◌≤◌, length};
+// Entries, and their numbers.
+ghost use Rattle.std.specs.Prelude.{◌≡◌, true, ◌<◌};
 ghost use Rattle.wac.specs.Limits.{entries};
-ghost use Rattle.decision.specs.Lens.{weighing_of};
-ghost use Rattle.decision.specs.Table.{is_entry, arrivals_of, number, NumberOf, table_of};
+ghost use Rattle.decision.specs.Table.{is_entry, arrivals_of, number, NumberOf};
 
-use crate::lens::Lens;
 use wac::Table;
 
 // Places from the first on, up to the one past the last.
@@ -76,16 +74,4 @@ pub fn entry_number(entry: Entry) -> Option<usize>
         return None;
     }
     Some(entry.number())
-}
-
-// The weight that a list gives an entry, and none where there is no such entry.
-#[tactic(auto, unfolding(crate::specs::Table::table_of))]
-pub(crate) fn weight_at(lens: Lens, table: &[u32], entry: Entry) -> u32
-    requires { entries ≤ length table.now }
-    ensures { result ≡ table_of (weighing_of lens).none table.now entry.key entry.symbol entry.place }
-{
-    match entry_number(entry) {
-        Some(number) => table[number],
-        None => lens.none(),
-    }
 }

@@ -5,11 +5,13 @@
 #![tactic(auto)]
 
 mod entries;
+mod inquiry;
 mod lens;
 mod passing;
 mod question;
 mod reading;
 mod request;
+mod row;
 mod writing;
 
 pub use entries::{Entry, entry_number};

@@ -1,6 +1,6 @@
 // The question: refusals, the verdict, and what the lent places then hold.
 ghost use Rattle.std.specs.Prelude.{◌≡◌, ◌≤◌, length, Ok};
-ghost use Rattle.wac.specs.Limits.{entries, chain_places};
+ghost use Rattle.wac.specs.Limits.{entries, chain_places, delegate, end_place};
 ghost use Rattle.wac.specs.Answers.{first_of};
 ghost use Rattle.decision.specs.declared.question.Refused.TheVariants.{File};
 ghost use Rattle.decision.specs.Question.{
@@ -8,7 +8,6 @@ ghost use Rattle.decision.specs.Question.{
   answered_as,
   Admits,
   request_of,
-  Ready,
   Granting,
   Counted,
   Answered,
@@ -22,9 +21,12 @@ ghost use Rattle.decision.specs.Question.{
 };
 
 use crate::entries::Entry;
+use crate::inquiry::Inquiry;
 use crate::lens::Lens;
+use crate::passing;
 use crate::request::Request;
-use crate::{entries, passing, writing};
+use crate::row::Row;
+use crate::writing::LastSteps;
 use wac::{Refusal, Table};
 
 // Why a question is refused.
@@ -92,61 +94,63 @@ pub fn admit(file: &[u8], request: Request) -> Result<usize, Refused>
     Ok(count)
 }
 
+// The entry of which the question asks: the owner's, by which it may delegate.
+fn owner_entry(request: Request) -> Entry
+    ensures { result ≡ record { key = request.owner; symbol = delegate; place = end_place } }
+{
+    Entry {
+        key: request.owner as usize,
+        symbol: Table::DELEGATE,
+        place: Table::END,
+    }
+}
+
 // The steps of a granted question, and its chain: the verdict.
 fn judge_steps(
-    file: &[u8],
-    request: Request,
-    count: usize,
+    inquiry: Inquiry<'_>,
     minute: u32,
     passes: u64,
     steps: &mut [u32],
     chain: &mut [u8],
 ) -> Verdict
-    requires { Granting file.now request count minute × (length steps.old ≡ entries) × (chain_places ≤ length chain.old) }
-    ensures { Counted file.now request minute passes (Ok result) steps.old steps.new chain.old chain.new }
+    requires { Granting inquiry.file.now inquiry.request inquiry.count minute × (length steps.old ≡ entries) × (chain_places ≤ length chain.old) }
+    ensures { Counted inquiry.entry.file.now inquiry.entry.request minute passes (Ok result) steps.old steps.new chain.old chain.new }
 {
     let lens = Lens::Steps(minute);
-    let entry = Entry {
-        key: request.owner as usize,
-        symbol: Table::DELEGATE,
-        place: Table::END,
+    inquiry.start_by(lens, steps);
+    inquiry.settle_by(lens, steps);
+    let last = LastSteps {
+        inquiry,
+        floor: minute,
+        table: steps,
     };
-    passing::start_by(lens, request.asker as usize, steps);
-    passing::settle_by(lens, file, request, count, steps);
-    let fewest = entries::weight_at(lens, steps, entry);
+    let entry = owner_entry(inquiry.request);
+    let fewest = last.steps_at(entry);
     if (Table::CHAIN_PLACES as u32) < fewest {
         return Verdict::GrantedLong(minute, passes);
     }
-    writing::expand_entry(file, request, minute, count, steps, chain, 0, entry);
+    last.expand_entry(chain, 0, entry);
     Verdict::Granted(minute, fewest, passes)
 }
 
 // The verdict on a question in order.
-fn judge(
-    file: &[u8],
-    request: Request,
-    count: usize,
-    minutes: &mut [u32],
-    steps: &mut [u32],
-    chain: &mut [u8],
-) -> Verdict
-    requires { Ready file.now request count × (length minutes.old ≡ entries) × (length steps.old ≡ entries) × (chain_places ≤ length chain.old) }
-    ensures { Answered file.now request (Ok result) minutes.old minutes.new steps.old steps.new chain.old chain.new }
+fn judge(inquiry: Inquiry<'_>, minutes: &mut [u32], steps: &mut [u32], chain: &mut [u8]) -> Verdict
+    requires { (length minutes.old ≡ entries) × (length steps.old ≡ entries) × (chain_places ≤ length chain.old) }
+    ensures { Answered inquiry.entry.file.now inquiry.entry.request (Ok result) minutes.old minutes.new steps.old steps.new chain.old chain.new }
 {
     let lens = Lens::Minutes;
-    passing::start_by(lens, request.asker as usize, minutes);
-    let passes = passing::settle_by(lens, file, request, count, minutes);
-    let entry = Entry {
-        key: request.owner as usize,
-        symbol: Table::DELEGATE,
-        place: Table::END,
+    inquiry.start_by(lens, minutes);
+    let passes = inquiry.settle_by(lens, minutes);
+    let settled = Row {
+        lens,
+        table: minutes,
     };
-    let minute = entries::weight_at(lens, minutes, entry);
+    let minute = settled.weight_at(owner_entry(inquiry.request));
     if minute == 0 {
         passing::fill(steps, Table::CHAIN_PLACES as u32 + 1);
         return Verdict::NoChain(passes);
     }
-    judge_steps(file, request, count, minute, passes, steps, chain)
+    judge_steps(inquiry, minute, passes, steps, chain)
 }
 
 // The question. Any bytes and any numbers; a refused call leaves every lent place as it was.
@@ -169,10 +173,13 @@ pub fn ask(
     if chain.len() < Table::CHAIN_PLACES {
         return Err(Refused::Places);
     }
-    let verdict = judge(
+    let inquiry = Inquiry {
         file,
-        request,
         count,
+        request,
+    };
+    let verdict = judge(
+        inquiry,
         &mut minutes[..Table::ENTRIES],
         &mut steps[..Table::ENTRIES],
         chain,
@@ -238,7 +245,12 @@ pub fn settle(file: &[u8], request: Request, table: &mut [u32]) -> Result<u64, R
     if table.len() < Table::ENTRIES {
         return Err(Refused::Places);
     }
-    Ok(passing::settle_by(Lens::Minutes, file, request, count, table))
+    let inquiry = Inquiry {
+        file,
+        count,
+        request,
+    };
+    Ok(inquiry.settle_by(Lens::Minutes, table))
 }
 
 // The refusal's number.

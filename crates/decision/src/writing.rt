@@ -2,159 +2,151 @@
 // its subject reads.
 ghost use Rattle.std.specs.Prelude.{◌≡◌, ◌+◌, ◌≤◌, ◌<◌, length, slice_index};
 ghost use Rattle.wac.specs.Limits.{chain_places, end_place};
-ghost use Rattle.wac.specs.File.{count_of, cert_at};
+ghost use Rattle.wac.specs.File.{count_of};
 ghost use Rattle.decision.specs.Usable.{symbols_of};
-ghost use Rattle.decision.specs.Table.{is_entry};
+ghost use Rattle.decision.specs.Engine.{Within};
+ghost use Rattle.decision.specs.declared.lens.Lens.TheVariants.{Steps};
 ghost use Rattle.decision.specs.Writing.{
   StepsTable,
   steps_at,
   steps_read,
   brings,
   Bringing,
-  Onward,
   Wrote,
   Entered,
   ReadBy,
 };
 
 use crate::entries::Entry;
+use crate::inquiry::Inquiry;
 use crate::lens::Lens;
-use crate::request::Request;
-use crate::{entries, reading};
-use wac::{Cert, Table};
+use crate::reading::RightSide;
+use crate::row::Row;
+use wac::Table;
 
-// Does certificate i bring the entry about by one step more than its subject reads?
-fn brings_by(
-    file: &[u8],
-    request: Request,
-    floor: u32,
-    table: &[u32],
-    i: usize,
-    entry: Entry,
-) -> bool
-    requires { StepsTable file.now request floor table.now × (i < count_of file.now) }
-    ensures { result ≡ brings file.now request floor table.now i entry.key entry.symbol entry.place }
-{
-    let lens = Lens::Steps(floor);
-    let Ok(cert) = wac::record_alone(file, i) else {
-        return false;
-    };
-    lens.is_live(request, cert)
-        && cert.issuer as usize == entry.key
-        && cert.left as usize == entry.symbol
-        && reading::read_from(lens, table, cert, 0, cert.subject as usize, entry.place) + 1
-            == entries::weight_at(lens, table, entry)
+// The last table of steps of an inquiry, over the certificates that end at the floor or later.
+#[derive(Clone, Copy)]
+pub struct LastSteps<'a> {
+    pub inquiry: Inquiry<'a>,
+    pub floor: u32,
+    pub table: &'a [u32],
+    ghost within: { Within (Steps floor) table.now },
+    ghost last: { ∥ StepsTable inquiry.file.now inquiry.request floor table.now ∥₁ },
 }
 
-// The lowest certificate that brings an entry about by its steps.
-fn find_cert(
-    file: &[u8],
-    request: Request,
-    floor: u32,
-    count: usize,
-    table: &[u32],
-    entry: Entry,
-) -> usize
-    requires { StepsTable file.now request floor table.now × (count ≡ count_of file.now) × (steps_at floor table.now entry.key entry.symbol entry.place ≤ chain_places) × (steps_at floor table.now entry.key entry.symbol entry.place ≡ 0 → ⊥) }
-    ensures { Bringing file.now request floor table.now entry.key entry.symbol entry.place result }
-{
-    for i in 0..count {
-        if brings_by(file, request, floor, table, i, entry) {
-            return i;
-        }
-    }
-    0
-}
-
-// The lowest place to which symbol j goes in a best reading of a certificate's right side.
-fn find_place(floor: u32, table: &[u32], cert: Cert, j: usize, from: usize, to: usize) -> usize
-    requires { Onward floor table.now cert j from to × (j < length (symbols_of cert)) }
-    ensures { (result ≤ end_place) × (steps_read floor table.now cert j from to ≡ steps_at floor table.now from (slice_index (symbols_of cert) j) result + steps_read floor table.now cert (j + 1) result to) }
-{
-    let lens = Lens::Steps(floor);
-    let symbol = reading::symbol_at(cert, j);
-    let whole = reading::read_from(lens, table, cert, j, from, to);
-    for place in 0..Table::END {
-        let entry = Entry {
-            key: from,
-            symbol,
-            place,
+impl<'a> LastSteps<'a> {
+    // The steps of an entry.
+    pub fn steps_at(self, entry: Entry) -> u32
+        ensures { result ≡ steps_at self.entry.floor self.entry.table.now entry.key entry.symbol entry.place }
+    {
+        let row = Row {
+            lens: Lens::Steps(self.floor),
+            table: self.table,
         };
-        let first = entries::weight_at(lens, table, entry);
-        let rest = reading::read_from(lens, table, cert, j + 1, place, to);
-        if first + rest == whole {
-            return place;
-        }
+        row.weight_at(entry)
     }
-    Table::END
-}
 
-// Writes an entry from `at` on, and gives the next place.
-#[cycle(expand_entry_expand_subject)]
-pub fn expand_entry(
-    file: &[u8],
-    request: Request,
-    floor: u32,
-    count: usize,
-    table: &[u32],
-    chain: &mut [u8],
-    at: usize,
-    entry: Entry,
-) -> usize
-    requires { StepsTable file.now request floor table.now × (count ≡ count_of file.now) × (steps_at floor table.now entry.key entry.symbol entry.place ≤ chain_places) × (at + steps_at floor table.now entry.key entry.symbol entry.place ≤ length chain.old) }
-    ensures { Wrote (Entered file.now request floor entry.key entry.symbol entry.place) at (steps_at floor table.now entry.key entry.symbol entry.place) chain.old chain.new result }
-{
-    let steps = entries::weight_at(Lens::Steps(floor), table, entry);
-    if steps == 0 {
-        return at;
-    }
-    let i = find_cert(file, request, floor, count, table, entry);
-    let Ok(cert) = wac::record_alone(file, i) else {
-        return at;
-    };
-    chain[at] = (i % 256) as u8;
-    expand_subject(
-        file,
-        request,
-        floor,
-        count,
-        table,
-        chain,
-        at + 1,
-        cert,
-        entry.place,
-    )
-}
-
-// Writes the entries that a certificate's subject reads, from `at` on, and gives the next place.
-#[cycle(expand_entry_expand_subject)]
-fn expand_subject(
-    file: &[u8],
-    request: Request,
-    floor: u32,
-    count: usize,
-    table: &[u32],
-    chain: &mut [u8],
-    at: usize,
-    cert: Cert,
-    to: usize,
-) -> usize
-    requires { StepsTable file.now request floor table.now × (count ≡ count_of file.now) × Onward floor table.now cert 0 cert.subject to × (at + steps_read floor table.now cert 0 cert.subject to ≤ length chain.old) }
-    ensures { Wrote (ReadBy file.now request floor cert to) at (steps_read floor table.now cert 0 cert.subject to) chain.old chain.new result }
-{
-    let symbols = reading::symbols_in(cert);
-    let mut next = at;
-    let mut from = cert.subject as usize;
-    for j in 0..symbols {
-        let symbol = reading::symbol_at(cert, j);
-        let place = find_place(floor, table, cert, j, from, to);
-        let entry = Entry {
-            key: from,
-            symbol,
-            place,
+    // The fewest steps in which the symbols from j on are read from one place to another.
+    fn steps_read(self, side: RightSide, j: usize, from: usize, to: usize) -> u32
+        requires { j ≤ length (symbols_of side.cert) }
+        ensures { result ≡ steps_read self.entry.floor self.entry.table.now side.cert j from to }
+    {
+        let row = Row {
+            lens: Lens::Steps(self.floor),
+            table: self.table,
         };
-        next = expand_entry(file, request, floor, count, table, chain, next, entry);
-        from = place;
+        row.read_from(side, j, from, to)
     }
-    next
+
+    // Does certificate i bring the entry about by one step more than its subject reads?
+    fn brings_by(self, i: usize, entry: Entry) -> bool
+        requires { i < count_of self.inquiry.file.now }
+        ensures { result ≡ brings self.entry.inquiry.file.now self.entry.inquiry.request self.entry.floor self.entry.table.now i entry.key entry.symbol entry.place }
+    {
+        let Ok(cert) = wac::record_alone(self.inquiry.file, i) else {
+            return false;
+        };
+        let subject = cert.subject as usize;
+        Lens::Steps(self.floor).is_live(self.inquiry.request, cert)
+            && cert.issuer as usize == entry.key
+            && cert.left as usize == entry.symbol
+            && self.steps_read(RightSide { cert }, 0, subject, entry.place) + 1
+                == self.steps_at(entry)
+    }
+
+    // The lowest certificate that brings an entry about by its steps.
+    fn find_cert(self, entry: Entry) -> usize
+        requires { (steps_at self.floor self.table.now entry.key entry.symbol entry.place ≤ chain_places) × (steps_at self.floor self.table.now entry.key entry.symbol entry.place ≡ 0 → ⊥) }
+        ensures { Bringing self.entry.inquiry.file.now self.entry.inquiry.request self.entry.floor self.entry.table.now entry.key entry.symbol entry.place result }
+    {
+        for i in 0..self.inquiry.count {
+            if self.brings_by(i, entry) {
+                return i;
+            }
+        }
+        0
+    }
+
+    // The lowest place to which symbol j goes in a best reading of a right side.
+    fn find_place(self, side: RightSide, j: usize, from: usize, to: usize) -> usize
+        requires { (j < length (symbols_of side.cert)) × (steps_read self.floor self.table.now side.cert j from to ≤ chain_places) }
+        ensures { (result ≤ end_place) × (steps_read self.entry.floor self.entry.table.now side.cert j from to ≡ steps_at self.entry.floor self.entry.table.now from (slice_index (symbols_of side.cert) j) result + steps_read self.entry.floor self.entry.table.now side.cert (j + 1) result to) }
+    {
+        let symbol = side.symbol_at(j);
+        let whole = self.steps_read(side, j, from, to);
+        for place in 0..Table::END {
+            let first = self.steps_at(Entry {
+                key: from,
+                symbol,
+                place,
+            });
+            let rest = self.steps_read(side, j + 1, place, to);
+            if first + rest == whole {
+                return place;
+            }
+        }
+        Table::END
+    }
+
+    // Writes an entry from `at` on, and gives the next place.
+    #[cycle(expand_entry_expand_subject)]
+    pub fn expand_entry(self, chain: &mut [u8], at: usize, entry: Entry) -> usize
+        requires { (steps_at self.floor self.table.now entry.key entry.symbol entry.place ≤ chain_places) × (at + steps_at self.floor self.table.now entry.key entry.symbol entry.place ≤ length chain.old) }
+        ensures { Wrote (Entered self.entry.inquiry.file.now self.entry.inquiry.request self.entry.floor entry.key entry.symbol entry.place) at (steps_at self.entry.floor self.entry.table.now entry.key entry.symbol entry.place) chain.old chain.new result }
+    {
+        if self.steps_at(entry) == 0 {
+            return at;
+        }
+        let i = self.find_cert(entry);
+        let Ok(cert) = wac::record_alone(self.inquiry.file, i) else {
+            return at;
+        };
+        chain[at] = (i % 256) as u8;
+        self.expand_subject(chain, at + 1, RightSide { cert }, entry.place)
+    }
+
+    // Writes the entries that a certificate's subject reads, from `at` on, and gives the next place.
+    #[cycle(expand_entry_expand_subject)]
+    fn expand_subject(self, chain: &mut [u8], at: usize, side: RightSide, to: usize) -> usize
+        requires { (steps_read self.floor self.table.now side.cert 0 side.cert.subject to ≤ chain_places) × (at + steps_read self.floor self.table.now side.cert 0 side.cert.subject to ≤ length chain.old) }
+        ensures { Wrote (ReadBy self.entry.inquiry.file.now self.entry.inquiry.request self.entry.floor side.cert to) at (steps_read self.entry.floor self.entry.table.now side.cert 0 side.cert.subject to) chain.old chain.new result }
+    {
+        let mut next = at;
+        let mut from = side.cert.subject as usize;
+        for j in 0..side.symbols_in() {
+            let symbol = side.symbol_at(j);
+            let place = self.find_place(side, j, from, to);
+            next = self.expand_entry(
+                chain,
+                next,
+                Entry {
+                    key: from,
+                    symbol,
+                    place,
+                },
+            );
+            from = place;
+        }
+        next
+    }
 }

@@ -31,10 +31,12 @@ returns-then-chain-lt-CHAIN_PLACES c =
     let args = c.args in
     refused _ _ (few_chain args.file.now _ (length args.minutes.now) (length args.steps.now) (length args.chain.now) (sym c.in_ok-count.ensures) c.if-minutes-lt-ENTRIES.false c.if-steps-lt-ENTRIES.false (omega (arith, c.if-chain-lt-CHAIN_PLACES.true))) refl refl refl refl
 
+pub invariant_of-inquiry : goal.invariant_of-inquiry
+invariant_of-inquiry c = record { bytes = λ i. (c.type_inv.file i).fits; ready = admitted_ready c.args.file.now _ (sym c.in_ok-count.ensures) }
+
 pub judge-verdict-requires : goal.judge-verdict-requires
 judge-verdict-requires c =
     let args = c.args in (
-      admitted_ready args.file.now _ (sym c.in_ok-count.ensures),
       length-take-le entries args.minutes.now c.if-minutes-lt-ENTRIES.false,
       length-take-le entries args.steps.now c.if-steps-lt-ENTRIES.false,
       c.if-chain-lt-CHAIN_PLACES.false,

@@ -1,44 +1,35 @@
 -- `judge_steps` meets its contract: the steps settle, and the chain is written out where it has at most 200.
 use mathlib.Core.Path.{◌∙◌}
 use native.Mathlib.Omega.{arith}
+use Rattle.std.proofs.lemmas.Grind.{merely}
 use Rattle.decision.proofs.QuestionLaws.{steps_start, steps_table, counted_long, counted_short}
 use Rattle.decision.proofs.question.judge_steps.Goals as goal
 
 pub settle_by-requires : goal.settle_by-requires
-settle_by-requires c =
+settle_by-requires c = steps_start c.args.inquiry.bytes c.requires.0 (c.start_by.auto.table ∙ c.requires.1) c.start_by.ensures.0
+
+pub invariant_of-last : goal.invariant_of-last
+invariant_of-last c =
     let pre = c.requires in
-    let start-by = c.start_by in
-    let g = pre.0 in (
-      g.ready.accepted,
-      g.ready.counted,
-      g.ready.asker,
-      steps_start (λ i. (c.type_inv.file i).fits) g (start-by.auto.table ∙ pre.1) start-by.ensures.0,
-    )
+    let begun = c.start_by in
+    let table = steps_table c.args.inquiry.bytes pre.0 c.args.steps.now pre.1 begun.auto.table begun.ensures.0 c.settle_by.ensures in
+    record { within = table.within; last = merely table }
 
 pub returns-then-fewest : goal.returns-then-fewest
 returns-then-fewest c =
-    let args = c.args in
     let pre = c.requires in
-    let start-by = c.start_by in
-    let settle-by = c.settle_by in
-    counted_long (λ i. (c.type_inv.file i).fits) pre.0 args.steps.now pre.1 start-by.auto.table start-by.ensures.0 settle-by.ensures c.weight_at-fewest.ensures c.if-fewest.true
+    let begun = c.start_by in
+    counted_long c.args.inquiry.bytes pre.0 c.args.steps.now pre.1 begun.auto.table begun.ensures.0 c.settle_by.ensures (rw c.owner_entry-entry.ensures at c.steps_at-fewest.ensures) c.if-fewest.true
 
 pub expand_entry-requires : goal.expand_entry-requires
 expand_entry-requires c =
-    let args = c.args in
     let pre = c.requires in
-    let start-by = c.start_by in
-    let settle-by = c.settle_by in
-    let table = steps_table (λ i. (c.type_inv.file i).fits) pre.0 args.steps.now pre.1 start-by.auto.table start-by.ensures.0 settle-by.ensures in
-    let same = c.weight_at-fewest.ensures in
-    (table, pre.0.ready.counted, rw same at c.if-fewest.false, omega arith)
+    let short = rw c.steps_at-fewest.ensures at c.if-fewest.false in
+    (short, omega arith)
 
 pub returns : goal.returns
 returns c =
-    let args = c.args in
     let pre = c.requires in
-    let start-by = c.start_by in
-    let settle-by = c.settle_by in
-    let weight-at = c.weight_at-fewest in
-    counted_short (λ i. (c.type_inv.file i).fits) pre.0 args.steps.now pre.1 start-by.auto.table start-by.ensures.0 settle-by.ensures
-    weight-at.ensures c.if-fewest.false c.expand_entry.ensures
+    let begun = c.start_by in
+    counted_short c.args.inquiry.bytes pre.0 c.args.steps.now pre.1 begun.auto.table begun.ensures.0 c.settle_by.ensures
+    (rw c.owner_entry-entry.ensures at c.steps_at-fewest.ensures) c.if-fewest.false (rw c.owner_entry-entry.ensures at c.expand_entry.ensures)

@@ -18,11 +18,11 @@ returns-then-table-lt-ENTRIES c =
     let args = c.args in
     refused _ _ (few_places args.file.now args.request (length args.table.now) (sym c.in_ok-count.ensures) c.if-table-lt-ENTRIES.true) refl refl
 
+pub invariant_of-inquiry : goal.invariant_of-inquiry
+invariant_of-inquiry c = record { bytes = λ i. (c.type_inv.file i).fits; ready = admitted_ready c.args.file.now c.args.request (sym c.in_ok-count.ensures) }
+
 pub settle_by-requires : goal.settle_by-requires
-settle_by-requires c =
-    let args = c.args in
-    let ready = admitted_ready args.file.now args.request (sym c.in_ok-count.ensures) in
-    (ready.accepted, ready.counted, ready.asker, minutes_within _ c.if-table-lt-ENTRIES.false (λ i. search rules))
+settle_by-requires c = minutes_within _ c.if-table-lt-ENTRIES.false (λ i. search rules)
 
 pub returns : goal.returns
 returns c =

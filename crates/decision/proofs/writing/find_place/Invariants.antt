@@ -1,8 +1,0 @@
--- `find_place` meets its contract. The invariant: to no place passed does the symbol go in a best reading; so, after the keys, it goes to the end.
--- The measure is what is left of the places.
-use Prim.Native.Nat.{ℕ, ◌<◌}
-use Rattle.decision.proofs.WritingLaws.{Goes}
-use Rattle.decision.proofs.writing.find_place.Given as goal
-
-abbrev pub invariant-loop-place : goal.invariant-loop-place
-invariant-loop-place l = (p : ℕ) → p < l.place → Goes l.floor l.table l.cert l.j l.from l.to p → ⊥
