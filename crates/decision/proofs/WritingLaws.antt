@@ -3,7 +3,7 @@ use mathlib.Core.Path.{◌≡◌, refl, sym, ap, ap₂, ◌∙◌, subst}
 use mathlib.Core.Logic.{◌⊎◌, inl, inr, ⊎_elim, by_cases}
 use mathlib.Core.Bool.{Bool, true, false, ◌&&◌, true≢false}
 use mathlib.Core.List.{List, [], ◌∷◌, ◌++◌, append-nil, append_assoc}
-use Prim.Native.Nat.{ℕ, suc, ◌+◌, ◌%◌, ◌<◌, ◌≤◌, min}
+use Prim.Native.Nat.{ℕ, suc, ◌+◌, ◌<◌, ◌≤◌, min}
 use native.Mathlib.Nat.{add-zero, add-suc, suc-add}
 use native.Mathlib.Numerals.{add-one}
 use native.Mathlib.Omega.{arith}
@@ -198,19 +198,18 @@ reads_snoc {d = d} (goes {c = c} {d = e} f r) b = rw (append_assoc c e d) (goes 
 
 -- an entry's own certificate, and then what its subject reads
 pub entry_own : {s : List ℕ} {q : Request} {floor : ℕ} {l : List ℕ} {k x a i : ℕ} {c : Cert} {at : ℕ} {ch ch' : List ℕ} {r : ℕ} →
-    Bringing s q floor l k x a i → c ≡ cert_at s i → i < 256 →
-    Wrote (ReadBy s q floor c a) (at + 1) (steps_read floor l c 0 c.subject a) (set ch at (i % 256)) ch' r →
+    Bringing s q floor l k x a i → c ≡ cert_at s i →
+    Wrote (ReadBy s q floor c a) (at + 1) (steps_read floor l c 0 c.subject a) (set ch at i) ch' r →
     Wrote (Entered s q floor k x a) at (steps_at floor l k x a) ch ch' r
 unfolding kept rules_of
-entry_own {s = s} {q = q} {floor = floor} {a = a} {i = i} {at = at} {ch = ch} b same small w =
-    let byte : i % 256 ≡ i = omega arith in
+entry_own {s = s} {q = q} {floor = floor} {a = a} {i = i} {at = at} {ch = ch} b same w =
     let steps = bringing_steps b same in
     record {
       list = i ∷ w.list;
       long = ap suc w.long ∙ sym steps;
       holds = by i b.fires (subst (λ d. ReadBy s q floor d a w.list) same w.holds);
       next = omega (arith, w.next);
-      written = w.written ∙ ap₂ (λ n m. sets (set ch at n) m w.list) byte (add-one at);
+      written = w.written ∙ ap (λ n. sets (set ch at i) n w.list) (add-one at);
     }
 
 -- the chains by which a word is read from a certificate's subject to a place

@@ -121,7 +121,7 @@ impl<'a> LastSteps<'a> {
         let Ok(cert) = wac::record_alone(self.inquiry.file, i) else {
             return at;
         };
-        chain[at] = (i % 256) as u8;
+        chain[at] = i as u8;
         self.expand_subject(chain, at + 1, RightSide { cert }, entry.place)
     }
 

@@ -19,12 +19,15 @@ expand_entry-expand_subject-requires t c =
     let steps = bringing_steps bringing (fetched_same c.record_alone.ensures c.args.self.inquiry.ready.accepted (bringing_below bringing) c.in-Ok.is) in
     (omega (arith, steps), (omega (arith, steps, pre.0), simp length-set (omega (arith, steps, pre.1))))
 
+pub expand_entry-overflow_cast-chain : goal.expand_entry-overflow_cast-chain
+expand_entry-overflow_cast-chain t c = omega (arith, bringing_small c.find_cert-i.ensures c.args.self.inquiry.ready.accepted)
+
 pub expand_entry-returns : goal.expand_entry-returns
 expand_entry-returns t c =
     let accepted = c.args.self.inquiry.ready.accepted in
     let bringing = c.find_cert-i.ensures in
     let same = fetched_same c.record_alone.ensures accepted (bringing_below bringing) c.in-Ok.is in
-    entry_own bringing same (bringing_small bringing accepted) c.expand_subject.ensures
+    entry_own bringing same c.expand_subject.ensures
 
 pub expand_subject-loop-j-init : goal.expand_subject-loop-j-init
 expand_subject-loop-j-init t c = part_none
