@@ -1,49 +1,18 @@
 -- Laws about text: pieces written one after the other, and decimals.
-use mathlib.Core.Path.{◌≡◌, refl, sym, ap, ◌∙◌}
+use mathlib.Core.Path.{◌≡◌, refl, ap, ◌∙◌}
 use mathlib.Core.Logic.{by_cases}
-use mathlib.Core.List.{List, [], ◌∷◌, ◌++◌, append_assoc, append-nil}
+use mathlib.Core.List.{List, [], ◌∷◌, ◌++◌, map, append_assoc, append-nil}
 use Prim.Native.Nat.{ℕ, zero, suc, ◌+◌, ◌*◌, ◌-◌, ◌/◌, ◌^◌, ◌≤◌, ◌<◌}
-use native.Mathlib.Nat.{pow-suc, pow-le-pow_right, add-zero, le_trans}
+use native.Mathlib.Nat.{pow-suc, pow-le-pow_right, le_trans}
 use native.Mathlib.Decide.{dec_le}
-use native.Mathlib.Numerals.{add-one}
 use native.Mathlib.Omega.{arith}
 use borrow.Author.Tests.{lt-ltb, le-ltb}
-use lib.ListN.{length, take, drop, get_or, length-append, length-drop, length-take, take-append-drop, drop_of_length-le}
-use lib.Seq.{length-take-le, take_at, drop-append-add, drop-drop, take-suc, take_all, take-length}
+use lib.ListN.{length, take, drop, get_or, length-append, length-drop, length-take, drop_of_length-le}
+use lib.Seq.{drop-drop, take_all, take-length}
 use borrow.Rule.Slice.PartMut.{mid_of, put_mid}
+use Rattle.std.proofs.lemmas.List.{map-id}
 use Rattle.io.specs.Digits.{last_digits, IsDigitCount}
-use Rattle.lines.specs.Text.{space, places, decimal, fields, Put}
-
--- nothing written
-pub put_none : (out : List ℕ) (at : ℕ) → Put out at [] at out
-put_none out at = record {
-  end = omega arith;
-  bytes = rw (append-nil, add-zero) (sym (take-append-drop at out));
-}
-
-module _ {out out₁ v : List ℕ} {at end : ℕ} (fits : at + length v ≤ length out) (p : Put out at v end out₁) where
-  -- the bytes are as many as before
-  pub put_length : length out₁ ≡ length out
-  put_length = ap length p.bytes ∙ simp (length-append, length-drop, length-take-le at out (omega arith)) (omega arith)
-
-  head : length (take at out ++ v) ≡ end
-  head = length-append (take at out) v ∙ omega (arith, length-take-le at out (omega arith), p.end)
-
-  front : take end out₁ ≡ take at out ++ v
-  front = rw p.bytes (take_at (take at out ++ v) (drop (at + length v) out) end head)
-
-  sum : (n : ℕ) → at + length v + n ≡ at + (length v + n)
-  sum n = omega arith
-
-  rest : (n : ℕ) → drop (end + n) out₁ ≡ drop (at + length v + n) out
-  rest n = rw (p.bytes, ← head, drop-append-add, drop-drop)
-
-  -- two pieces one after the other are one piece
-  pub put_more : {w out₂ : List ℕ} {r : ℕ} → Put out₁ end w r out₂ → Put out at (v ++ w) r out₂
-  put_more {w} q = record {
-    end = q.end ∙ omega (arith, p.end, length-append v w);
-    bytes = q.bytes ∙ rw (front, rest (length w), length-append, append_assoc (take at out) v w) (ap (λ (n : ℕ). take at out ++ (v ++ w) ++ drop n out) (sum (length w)));
-  }
+use Rattle.lines.specs.Text.{places, decimal, fields}
 
 some : (k : ℕ) → 1 ≤ 10 ^ k
 some k = pow-le-pow_right {n = 10} (omega arith) {i = 0} {j = k} (omega arith)
@@ -107,34 +76,6 @@ put_part at out word part fits copied =
     let none = drop_of_length-le (drop at out) {i = length out - at} (omega (arith, length-drop at out)) in
     rw (none, append-nil, copied, all, take-length, drop-drop, append_assoc)
 
-pub fields_append : (ms ns : List ℕ) → fields (ms ++ ns) ≡ fields ms ++ fields ns
-unfolding fields
-fields_append [] ns = refl
-fields_append (m ∷ ms) ns = rw (fields_append ms ns) (sym (append_assoc (space ∷ decimal m) (fields ms) (fields ns)))
-
-fields_one : (n : ℕ) → fields (n ∷ []) ≡ space ∷ decimal n
-unfolding fields
-fields_one n = append-nil (space ∷ decimal n)
-
--- one field more
-pub fields_more : (i : ℕ) (ns : List ℕ) → i < length ns → fields (take (i + 1) ns) ≡ fields (take i ns) ++ (space ∷ decimal (get_or ns i 0))
-fields_more i ns h = rw (add-one, take-suc ns i 0, fields_append) (rw (fields_one (get_or ns i 0)))
-
--- the first fields, with the next, are no longer than all of them
-pub fields_fit : (i : ℕ) (ns : List ℕ) → i < length ns →
-    length (fields (take i ns)) + 1 + length (decimal (get_or ns i 0)) ≤ length (fields ns)
-unfolding fields
-fields_fit i [] h = absurd (omega arith)
-fields_fit zero (m ∷ ns) h = rw length-append (omega arith)
-fields_fit (suc i) (m ∷ ns) h =
-    rw (length-append (space ∷ decimal m) (fields (take i ns)), length-append (space ∷ decimal m) (fields ns))
-    (omega (arith, fields_fit i ns (omega arith)))
-
--- when all are written, the bytes are as many as before and the fields are put
-pub fields_done : {out out' : List ℕ} {at end : ℕ} (i : ℕ) (ns : List ℕ) → at + length (fields ns) ≤ length out → length ns ≤ i →
-    Put out at (fields (take i ns)) end out' → (length out' ≡ length out) × Put out at (fields ns) end out'
-fields_done i ns fits all p = let q = rw (take_all i ns all) at p in (put_length fits q, q)
-
 -- all of these numbers are below m
 abbrev pub AllBelow : ℕ → List ℕ → Type 0
 AllBelow m [] = Unit {0}
@@ -151,21 +92,15 @@ all_taken m (suc n) (k ∷ ns) low = (low.0, all_taken m n ns low.1)
 
 -- numbers below 10^(j + 1) take at most j + 2 bytes each as fields
 pub fields_most : (j : ℕ) (ns : List ℕ) → AllBelow (10 ^ suc j) ns → length (fields ns) ≤ (j + 2) * length ns
-unfolding fields
 fields_most j [] low = omega arith
 fields_most j (n ∷ ns) low = rw length-append (omega (arith, decimal_few j n low.0, fields_most j ns low.1))
 
--- numbers of 64 bits take at most 21 bytes each,
-pub fields_words : (ns : List ℕ) → AllBelow (10 ^ 20) ns → length (fields ns) ≤ 21 * length ns
-fields_words ns low = fields_most 19 ns low
-
--- bytes at most 4,
-pub fields_bytes : (n : ℕ) (ns : List ℕ) → ((i : ℕ) → get_or ns i 0 < 256) → length (fields (take n ns)) ≤ 4 * length ns
+-- bytes as fields take at most 4 bytes each
+pub fields_bytes : (n : ℕ) (ns : List ℕ) → ((i : ℕ) → get_or ns i 0 < 256) → length (fields (map (λ (k : ℕ). k) (take n ns))) ≤ 4 * length ns
 fields_bytes n ns low =
-    le_trans (fields_most 2 (take n ns) (all_taken 1000 n ns (all_below_lem 1000 ns (λ i. omega (arith, low i)))))
-    (omega (arith, length-take n ns))
+    rw (map-id (take n ns)) (le_trans (fields_most 2 (take n ns) (all_taken 1000 n ns (all_below_lem 1000 ns (λ i. omega (arith, low i)))))
+    (omega (arith, length-take n ns)))
 
--- and no numbers none.
-pub fields_none : length (fields []) ≡ 0
-unfolding fields
-fields_none = refl
+-- a number of 64 bits has at most 20 digits
+pub decimal_most : (n : ℕ) → n < 18446744073709551616 → length (decimal n) ≤ 20
+decimal_most n low = decimal_few 19 n (omega arith)

@@ -1,12 +1,13 @@
 -- The lines of two sites over a scripted line.
-use Rattle.std.specs.Prelude.{◌≡◌, cond, List, [], ◌∷◌, ◌++◌, ℕ, ◌<◌, ◌≤◌, length, Result}
+use Rattle.std.specs.Prelude.{◌≡◌, cond, List, [], ◌∷◌, ◌++◌, ℕ, ◌<◌, ◌≤◌, length, Result, Ok, Err}
 use Rattle.wac.specs.Answers.{gives, refuses}
 use Rattle.decision.specs.Question.{refusal_number, refusal_record}
 use Rattle.decision.specs.declared.question.Refused.{Refused}
 use Rattle.sites.specs.Site.{showing, restful, note_number}
 use Rattle.sites.specs.declared.site.Site.{Site}
-use Rattle.sites.specs.declared.site.Taken.{Taken}
-use Rattle.sites.specs.declared.site.Taken.TheVariants as takens
+use Rattle.sites.specs.declared.note.NoteKind.{NoteKind}
+use Rattle.sites.specs.declared.note.NoteKind.TheVariants.{Raise, Receipt}
+use Rattle.sites.specs.declared.site.NoteRefused.{NoteRefused}
 use Rattle.lines.specs.Text.{space, newline, field, Put}
 use Rattle.lines.specs.Question.{line_room, refused, line, lined_as}
 use Rattle.lines.specs.declared.question.NoRoom.{NoRoom}
@@ -48,24 +49,24 @@ abbrev pub none : List ℕ
 none = 32 ∷ 78 ∷ 79 ∷ 78 ∷ 69 ∷ []
 
 -- a site: the minute that it shows, and whether it rests
-unfoldable pub site_text : Site → List ℕ
+abbrev pub site_text : Site → List ℕ
 site_text x = field (showing x).minute ++ cond (restful x) rest busy
 
 -- what became of a note: its receipt was written, it was taken as a receipt, or the refusal's number
-unfoldable pub taken_text : Taken → List ℕ
-taken_text takens.Raise = receipt
-taken_text takens.Receipt = taken
-taken_text (takens.Refused why) = space ∷ refused ++ field (note_number why)
+abbrev pub taken_text : Result NoteKind NoteRefused → List ℕ
+taken_text (Ok Raise) = receipt
+taken_text (Ok Receipt) = taken
+taken_text (Err why) = space ∷ refused ++ field (note_number why)
 
 -- what became of an act: nothing more to say, the entry whose note was written, no note, or what became of a note
-unfoldable pub outcome_text : Outcome → List ℕ
+abbrev pub outcome_text : Outcome → List ℕ
 outcome_text Quiet = []
 outcome_text (Note e) = note ++ field e
 outcome_text Nothing = none
 outcome_text (Brought answer) = taken_text answer
 
 -- the line after an act: what both sites show, and what became of it
-unfoldable pub act_line : Site → Site → Outcome → List ℕ
+abbrev pub act_line : Site → Site → Outcome → List ℕ
 act_line a b outcome = site_a ++ site_text a ++ site_b ++ site_text b ++ outcome_text outcome ++ newline ∷ []
 
 -- a line of a refused opening: its words, the number and the record
@@ -73,7 +74,7 @@ abbrev pub refused_text : List ℕ → Refused → List ℕ
 refused_text word why = line word (refusal_number why ∷ refusal_record why ∷ [])
 
 -- the line of two sites that were not opened: 9, or the site that is refused, the number and the record
-unfoldable pub opening_line : Unopened → List ℕ
+abbrev pub opening_line : Unopened → List ℕ
 opening_line CutShort = line refused (9 ∷ [])
 opening_line (First why) = refused_text (refused ++ space ∷ site_a) why
 opening_line (Second why) = refused_text (refused ++ site_b) why

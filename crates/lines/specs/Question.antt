@@ -44,7 +44,7 @@ abbrev pub line : List ℕ → List ℕ → List ℕ
 line word ns = word ++ fields ns ++ newline ∷ []
 
 -- the line by a reply's number and values: GRANTED, minute, steps, passes, chain; NO-CHAIN, passes; GRANTED-LONG, minute, passes; REFUSED, number, record (0 unless 15)
-unfoldable pub line_by : ℕ → List ℕ → List ℕ → List ℕ
+abbrev pub line_by : ℕ → List ℕ → List ℕ → List ℕ
 line_by zero values chain = line granted (values ++ take (get_or values 1 0) chain)
 line_by (suc zero) values chain = line no_chain values
 line_by (suc (suc zero)) values chain = line granted_long values

@@ -1,5 +1,6 @@
 -- Text as bytes: numbers in decimal, fields, and what lent bytes hold after a piece was written.
-use Rattle.std.specs.Prelude.{◌≡◌, cond, List, [], ◌∷◌, ◌++◌, ℕ, zero, suc, ◌+◌, ◌/◌, ltb, length, take, drop}
+use Rattle.std.specs.Prelude.{◌≡◌, cond, List, ◌∷◌, ◌++◌, ℕ, zero, suc, ◌+◌, ◌/◌, ltb, length, take, drop}
+use Rattle.std.specs.List.{flat_map}
 use Rattle.io.specs.Digits.{last_digits}
 
 -- the byte of a space
@@ -24,9 +25,8 @@ abbrev pub field : ℕ → List ℕ
 field n = space ∷ decimal n
 
 -- numbers as fields
-unfoldable pub fields : List ℕ → List ℕ
-fields [] = []
-fields (n ∷ ns) = field n ++ fields ns
+abbrev pub fields : List ℕ → List ℕ
+fields = flat_map field
 
 -- the piece stands from a place on, at whose end r is; all other bytes are as they were
 pub record Put (out : List ℕ) (at : ℕ) (piece : List ℕ) (r : ℕ) (out' : List ℕ) : Type 0 where

@@ -1,12 +1,14 @@
 // The lines of two sites over a scripted line: what both show after an act, and why none were opened.
-ghost use Rattle.std.specs.Prelude.{◌+◌, ◌≤◌, length};
-ghost use Rattle.lines.specs.Text.{Put};
-ghost use Rattle.lines.specs.Act.{site_text, taken_text, outcome_text, Tells, refused_text, Declines};
+#![tactic(auto, using(std::proofs::lemmas::Grind::common_steps, crate::proofs::TextLaws::decimal_most))]
 
-use crate::question::{Line, NoRoom};
-use crate::text;
+ghost use Rattle.std.specs.Prelude.{◌≡◌, ◌++◌, ◌+◌, ◌≤◌, length};
+ghost use Rattle.lines.specs.Question.{line_room};
+ghost use Rattle.lines.specs.Act.{site_text, taken_text, outcome_text, act_line, Tells, opening_line, Declines};
+
+use crate::question::{Line, NoRoom, refused_line};
+use crate::text::Text;
 use decision::Refused;
-use sites::{Site, Taken};
+use sites::{NoteKind, NoteRefused, Site};
 
 // What became of an act.
 #[derive(Clone, Copy)]
@@ -18,51 +20,68 @@ pub enum Outcome {
     // There was no note.
     Nothing,
     // What became of a note that was brought.
-    Brought(Taken),
+    Brought(Result<NoteKind, NoteRefused>),
 }
 
 // What a site shows, and whether it rests.
-fn put_site(out: &mut [u8], at: usize, site: Site) -> usize
-    requires { at + 30 ≤ length out.old }
-    ensures { Put out.old at (site_text site) result out.new × (result ≤ at + 30) }
+fn put_site(text: &mut Text, site: Site)
+    requires { length text.old + 30 ≤ line_room }
+    ensures text { text.new ≡ text.old ++ site_text site }
+    ensures short { length text.new ≤ length text.old + 30 }
 {
-    let showing = sites::shown(site);
-    let end = text::put_number(out, at, showing.minute as u64);
+    text.put_number(u64::from(sites::shown(site).minute));
     if sites::rests(site) {
-        return text::put_word(out, end, b" rest");
+        text.put_word(b" rest");
+    } else {
+        text.put_word(b" busy");
     }
-    text::put_word(out, end, b" busy")
 }
 
 // What became of a note.
-fn put_taken(out: &mut [u8], at: usize, answer: Taken) -> usize
-    requires { at + 30 ≤ length out.old }
-    ensures { Put out.old at (taken_text answer) result out.new × (result ≤ at + 30) }
+fn put_taken(text: &mut Text, answer: Result<NoteKind, NoteRefused>)
+    requires { length text.old + 30 ≤ line_room }
+    ensures text { text.new ≡ text.old ++ taken_text answer }
+    ensures short { length text.new ≤ length text.old + 30 }
 {
     match answer {
-        Taken::Raise => text::put_word(out, at, b" RECEIPT"),
-        Taken::Receipt => text::put_word(out, at, b" TAKEN"),
-        Taken::Refused(why) => {
-            let end = text::put_word(out, at, b" REFUSED");
-            text::put_number(out, end, sites::note_refusal_number(why) as u64)
+        Ok(NoteKind::Raise) => text.put_word(b" RECEIPT"),
+        Ok(NoteKind::Receipt) => text.put_word(b" TAKEN"),
+        Err(why) => {
+            text.put_word(b" REFUSED");
+            text.put_number(u64::from(sites::note_refusal_number(why)));
         }
     }
 }
 
 // What became of an act.
-fn put_outcome(out: &mut [u8], at: usize, outcome: Outcome) -> usize
-    requires { at + 30 ≤ length out.old }
-    ensures { Put out.old at (outcome_text outcome) result out.new × (result ≤ at + 30) }
+fn put_outcome(text: &mut Text, outcome: Outcome)
+    requires { length text.old + 30 ≤ line_room }
+    ensures text { text.new ≡ text.old ++ outcome_text outcome }
+    ensures short { length text.new ≤ length text.old + 30 }
 {
     match outcome {
-        Outcome::Quiet => at,
+        Outcome::Quiet => {}
         Outcome::Note(entry) => {
-            let end = text::put_word(out, at, b" NOTE");
-            text::put_number(out, end, entry as u64)
+            text.put_word(b" NOTE");
+            text.put_number(entry as u64);
         }
-        Outcome::Nothing => text::put_word(out, at, b" NONE"),
-        Outcome::Brought(answer) => put_taken(out, at, answer),
+        Outcome::Nothing => text.put_word(b" NONE"),
+        Outcome::Brought(answer) => put_taken(text, answer),
     }
+}
+
+// The text of the line after an act.
+fn act_text(a: Site, b: Site, outcome: Outcome) -> Text
+    ensures { result ≡ act_line a b outcome }
+{
+    let mut text = Text::new();
+    text.put_word(b"A");
+    put_site(&mut text, a);
+    text.put_word(b" B");
+    put_site(&mut text, b);
+    put_outcome(&mut text, outcome);
+    text.put_word(b"\n");
+    text
 }
 
 // Writes the line after an act to the front of the lent bytes, and gives its length.
@@ -72,13 +91,7 @@ pub fn act_line(a: Site, b: Site, outcome: Outcome, out: &mut [u8]) -> Result<us
     if out.len() < Line::ROOM {
         return Err(NoRoom);
     }
-    let named = text::put_word(out, 0, b"A");
-    let first = put_site(out, named, a);
-    let between = text::put_word(out, first, b" B");
-    let second = put_site(out, between, b);
-    let told = put_outcome(out, second, outcome);
-    let end = text::put_word(out, told, b"\n");
-    Ok(end)
+    Ok(act_text(a, b, outcome).put(out))
 }
 
 // Why two sites were not opened.
@@ -92,14 +105,15 @@ pub enum Unopened {
     Second(Refused),
 }
 
-// The line of a refused opening.
-fn put_refused(out: &mut [u8], word: &[u8], why: Refused) -> usize
-    requires { length word.now + 43 ≤ length out.old }
-    ensures { Put out.old 0 (refused_text word.now why) result out.new }
+// The text of the line of two sites that were not opened.
+fn opening_text(why: Unopened) -> Text
+    ensures { result ≡ opening_line why }
 {
-    let number = decision::refusal_number(why) as u64;
-    let record = decision::refusal_record(why) as u64;
-    text::put_line(out, word, &[number, record], &[])
+    match why {
+        Unopened::CutShort => Text::line(b"REFUSED", &[Line::CUT_SHORT]),
+        Unopened::First(refused) => refused_line(b"REFUSED A", refused),
+        Unopened::Second(refused) => refused_line(b"REFUSED B", refused),
+    }
 }
 
 // Writes the line of two sites that were not opened to the front of the lent bytes, and gives its length.
@@ -109,18 +123,5 @@ pub fn opening_line(why: Unopened, out: &mut [u8]) -> Result<usize, NoRoom>
     if out.len() < Line::ROOM {
         return Err(NoRoom);
     }
-    match why {
-        Unopened::CutShort => {
-            let end = text::put_line(out, b"REFUSED", &[Line::CUT_SHORT], &[]);
-            Ok(end)
-        }
-        Unopened::First(refused) => {
-            let end = put_refused(out, b"REFUSED A", refused);
-            Ok(end)
-        }
-        Unopened::Second(refused) => {
-            let end = put_refused(out, b"REFUSED B", refused);
-            Ok(end)
-        }
-    }
+    Ok(opening_text(why).put(out))
 }

@@ -7,14 +7,15 @@
 //   NO-CHAIN passes
 //   GRANTED-LONG minute passes
 //   REFUSED number record
-ghost use Rattle.std.specs.Prelude.{◌≤◌, length};
-ghost use Rattle.wac.specs.Limits.{chain_places};
-ghost use Rattle.decision.specs.Question.{reply_of, request_of};
-ghost use Rattle.lines.specs.Text.{Put};
-ghost use Rattle.lines.specs.Question.{request_bytes, line_room, request_in, line_of, Asks, Answers};
+#![tactic(auto, using(std::proofs::lemmas::Grind::common_steps, crate::proofs::TextLaws::decimal_most))]
 
-use crate::text;
-use decision::Verdict;
+ghost use Rattle.std.specs.Prelude.{◌≡◌, [], ◌∷◌, ◌+◌, ◌≤◌, length, take};
+ghost use Rattle.wac.specs.Limits.{chain_places};
+ghost use Rattle.decision.specs.Question.{reply_of, request_of, refusal_number, refusal_record};
+ghost use Rattle.lines.specs.Question.{line_room, granted, line, line_of, Asks, Answers};
+
+use crate::text::Text;
+use decision::{Refused, Verdict};
 use wac::Table;
 
 // The numbers of a line are associated constants.
@@ -36,27 +37,42 @@ impl Line {
 #[derive(Clone, Copy)]
 pub struct NoRoom;
 
+// The line of a granted question: minute, steps, passes, and the certificates of the chain.
+fn granted_line(minute: u32, steps: u32, passes: u64, chain: &[u8]) -> Text
+    requires { length chain.now ≤ chain_places }
+    ensures { result ≡ line granted (minute ∷ steps ∷ passes ∷ take steps chain.now) }
+{
+    let count = (steps as usize).min(chain.len());
+    let mut line = Text::new();
+    line.put_word(b"GRANTED");
+    line.put_numbers(&[u64::from(minute), u64::from(steps), passes]);
+    line.put_numbers(&chain[..count]);
+    line.put_word(b"\n");
+    line
+}
+
+// The line of a refusal, after these words.
+pub fn refused_line(words: &[u8], why: Refused) -> Text
+    requires { length words.now + 43 ≤ line_room }
+    ensures { result ≡ line words.now (refusal_number why ∷ refusal_record why ∷ []) }
+{
+    let number = u64::from(decision::refusal_number(why));
+    let record = decision::refusal_record(why) as u64;
+    Text::line(words, &[number, record])
+}
+
 // The line of a verdict.
-fn put_verdict(out: &mut [u8], verdict: Verdict, chain: &[u8]) -> usize
-    requires { (line_room ≤ length out.old) × (length chain.now ≤ chain_places) }
-    ensures { Put out.old 0 (line_of (reply_of verdict) chain.now) result out.new }
+fn verdict_line(verdict: Verdict, chain: &[u8]) -> Text
+    requires { length chain.now ≤ chain_places }
+    ensures { result ≡ line_of (reply_of verdict) chain.now }
 {
     match verdict {
-        Verdict::Granted(minute, steps, passes) => {
-            let count = (steps as usize).min(chain.len());
-            let numbers = [minute as u64, steps as u64, passes];
-            text::put_line(out, b"GRANTED", &numbers, &chain[..count])
-        }
-        Verdict::NoChain(passes) => text::put_line(out, b"NO-CHAIN", &[passes], &[]),
+        Verdict::Granted(minute, steps, passes) => granted_line(minute, steps, passes, chain),
+        Verdict::NoChain(passes) => Text::line(b"NO-CHAIN", &[passes]),
         Verdict::GrantedLong(minute, passes) => {
-            let numbers = [minute as u64, passes];
-            text::put_line(out, b"GRANTED-LONG", &numbers, &[])
+            Text::line(b"GRANTED-LONG", &[u64::from(minute), passes])
         }
-        Verdict::Refused(why) => {
-            let number = decision::refusal_number(why) as u64;
-            let record = decision::refusal_record(why) as u64;
-            text::put_line(out, b"REFUSED", &[number, record], &[])
-        }
+        Verdict::Refused(why) => refused_line(b"REFUSED", why),
     }
 }
 
@@ -78,7 +94,7 @@ fn put_asked(out: &mut [u8], file: &[u8], owner: u8, asker: u8, rights: u8, at: 
         &mut steps,
         &mut chain,
     );
-    put_verdict(out, verdict, &chain)
+    verdict_line(verdict, &chain).put(out)
 }
 
 // Writes the line of a question's bytes to the front of the lent bytes, and gives its length. Any bytes;
@@ -90,11 +106,9 @@ pub fn question_line(question: &[u8], out: &mut [u8]) -> Result<usize, NoRoom>
         return Err(NoRoom);
     }
     if question.len() < Line::REQUEST {
-        let end = text::put_line(out, b"REFUSED", &[Line::CUT_SHORT, 0], &[]);
-        return Ok(end);
+        return Ok(Text::line(b"REFUSED", &[Line::CUT_SHORT, 0]).put(out));
     }
     let at = wac::word_of(question[3], question[4], question[5], question[6]);
     let file = &question[Line::REQUEST..];
-    let end = put_asked(out, file, question[0], question[1], question[2], at);
-    Ok(end)
+    Ok(put_asked(out, file, question[0], question[1], question[2], at))
 }

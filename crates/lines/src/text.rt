@@ -1,63 +1,117 @@
-// The pieces of a line, written to lent bytes from a place on; each gives the place after it.
-ghost use Rattle.std.specs.Prelude.{[], ◌∷◌, ◌++◌, ◌+◌, ◌≤◌, length};
-ghost use Rattle.lines.specs.Text.{newline, decimal, field, fields, Put};
+// The text of a line, written from its first byte on, and put to lent bytes when it is whole.
+ghost use Rattle.std.specs.Prelude.{◌≡◌, ℕ, [], ◌∷◌, ◌++◌, ◌+◌, ◌≤◌, length, map};
+ghost use Rattle.lines.specs.Text.{field, fields, Put};
+ghost use Rattle.lines.specs.Question.{line_room, line};
 
-// A word.
-pub fn put_word(out: &mut [u8], at: usize, word: &[u8]) -> usize
-    requires { at + length word.now ≤ length out.old }
-    ensures { Put out.old at word.now result out.new }
-{
-    let end = at + word.len();
-    out[at..end].copy_from_slice(word);
-    end
+use crate::question::Line;
+use std::marker::Model;
+
+// A number that can stand in a line.
+pub trait Numeral: Copy {
+    ghost value: { Self → ℕ };
+
+    // The number in 64 bits.
+    fn widened(self) -> u64
+        ensures { result ≡ value self };
 }
 
-// A space, and a number in decimal.
-pub fn put_number(out: &mut [u8], at: usize, n: u64) -> usize
-    requires { at + 1 + length (decimal n) ≤ length out.old }
-    ensures { Put out.old at (field n) result out.new }
-{
-    let mut digits = [0u8; 20];
-    let count = io::decimal(n, &mut digits);
-    let from = put_word(out, at, b" ");
-    put_word(out, from, &digits[..count])
-}
+impl Numeral for u8 {
+    ghost value = { λ n. n };
 
-// Numbers as fields.
-fn put_numbers(out: &mut [u8], at: usize, numbers: &[u64]) -> usize
-    requires { at + length (fields numbers.now) ≤ length out.old }
-    ensures { Put out.old at (fields numbers.now) result out.new }
-{
-    let mut end = at;
-    let mut i = 0;
-    while i < numbers.len() {
-        end = put_number(out, end, numbers[i]);
-        i += 1;
+    fn widened(self) -> u64 {
+        u64::from(self)
     }
-    end
 }
 
-// Certificate numbers as fields.
-fn put_chain(out: &mut [u8], at: usize, chain: &[u8]) -> usize
-    requires { at + length (fields chain.now) ≤ length out.old }
-    ensures { Put out.old at (fields chain.now) result out.new }
-{
-    let mut end = at;
-    let mut i = 0;
-    while i < chain.len() {
-        end = put_number(out, end, chain[i] as u64);
-        i += 1;
+impl Numeral for u64 {
+    ghost value = { λ n. n };
+
+    fn widened(self) -> u64 {
+        self
     }
-    end
 }
 
-// A whole line: a word, numbers, certificate numbers, and its end.
-pub fn put_line(out: &mut [u8], word: &[u8], numbers: &[u64], chain: &[u8]) -> usize
-    requires { length word.now + length (fields numbers.now) + length (fields chain.now) + 1 ≤ length out.old }
-    ensures { Put out.old 0 (word.now ++ fields numbers.now ++ fields chain.now ++ newline ∷ []) result out.new }
-{
-    let named = put_word(out, 0, word);
-    let numbered = put_numbers(out, named, numbers);
-    let chained = put_chain(out, numbered, chain);
-    put_word(out, chained, b"\n")
+// What is written of a line: at most as many bytes as any line needs.
+#[derive(Drop)]
+pub struct Text {
+    bytes: [u8; Line::ROOM],
+    count: usize,
+}
+
+impl Model for Text {
+    ghost use Rattle.std.specs.Prelude.{List, ℕ, ◌≤◌, take};
+
+    ghost Value = { List ℕ };
+
+    ghost view = { λ text. take text.count text.bytes };
+
+    ghost invariant = { λ text. text.count ≤ 1024 };
+}
+
+impl Text {
+    // Nothing yet.
+    pub fn new() -> Text
+        ensures { result ≡ [] }
+    {
+        Text {
+            bytes: [0; Line::ROOM],
+            count: 0,
+        }
+    }
+
+    // A word.
+    pub fn put_word(&mut self, word: &[u8])
+        requires { length self.old + length word.now ≤ line_room }
+        ensures text { self.new ≡ self.old ++ word.now }
+        ensures len { length self.new ≡ length self.old + length word.now }
+    {
+        let end = self.count + word.len();
+        self.bytes[self.count..end].copy_from_slice(word);
+        self.count = end;
+    }
+
+    // A space, and a number in decimal.
+    #[tactic(auto, using(crate::proofs::TextLaws::decimal_most))]
+    pub fn put_number(&mut self, n: u64)
+        requires { length self.old + length (field n) ≤ line_room }
+        ensures text { self.new ≡ self.old ++ field n }
+        ensures len { length self.new ≤ length self.old + 21 }
+    {
+        let mut digits = [0u8; 20];
+        let count = io::decimal(n, &mut digits);
+        self.put_word(b" ");
+        self.put_word(&digits[..count]);
+    }
+
+    // Numbers as fields.
+    pub fn put_numbers<N: Numeral>(&mut self, numbers: &[N])
+        requires { length self.old + length (fields (map N.value numbers.now)) ≤ line_room }
+        ensures text { self.new ≡ self.old ++ fields (map N.value numbers.now) }
+        ensures len { length self.new ≡ length self.old + length (fields (map N.value numbers.now)) }
+    {
+        for n in numbers {
+            self.put_number(n.widened());
+        }
+    }
+
+    // A whole line of a word and numbers.
+    pub fn line(word: &[u8], numbers: &[u64]) -> Text
+        requires { length word.now + length (fields numbers.now) + 1 ≤ line_room }
+        ensures { result ≡ line word.now numbers.now }
+    {
+        let mut text = Text::new();
+        text.put_word(word);
+        text.put_numbers(numbers);
+        text.put_word(b"\n");
+        text
+    }
+
+    // Puts the text to the front of the lent bytes, and gives its length.
+    pub fn put(&self, out: &mut [u8]) -> usize
+        requires { line_room ≤ length out.old }
+        ensures { Put out.old 0 self.now result out.new }
+    {
+        out[..self.count].copy_from_slice(&self.bytes[..self.count]);
+        self.count
+    }
 }
