@@ -5,6 +5,7 @@ use Rattle.wac.specs.Answers.{Answer, gives, refuses}
 use Rattle.wac.specs.Record.{word_at}
 use Rattle.decision.specs.Question.{Reply, reply_of, request_of, Judged}
 use Rattle.decision.specs.declared.request.Request.{Request}
+use Rattle.decision.specs.declared.question.Refused.{Refused}
 use Rattle.decision.specs.declared.question.Verdict.{Verdict}
 use Rattle.lines.specs.Text.{newline, fields, Put}
 use Rattle.lines.specs.Stream.{counted}
@@ -70,7 +71,7 @@ length_of (Err e) = 0
 
 -- the line of the verdict on a question is put to the front of lent bytes
 pub record Asks (s : List ℕ) (q : Request) (out : List ℕ) (end : ℕ) (out' : List ℕ) : Type 0 where
-  pub verdict : Verdict
+  pub verdict : Result Verdict Refused
   pub minutes : List ℕ
   pub steps : List ℕ
   pub chain : List ℕ

@@ -24,13 +24,13 @@ pub enum Outcome {
 }
 
 // What a site shows, and whether it rests.
-fn put_site(text: &mut Text, site: Site)
+fn put_site(text: &mut Text, site: &Site)
     requires { length text.old + 30 ≤ line_room }
-    ensures text { text.new ≡ text.old ++ site_text site }
+    ensures text { text.new ≡ text.old ++ site_text site.now }
     ensures short { length text.new ≤ length text.old + 30 }
 {
-    text.put_number(u64::from(sites::shown(site).minute));
-    if sites::rests(site) {
+    text.put_number(u64::from(site.shown().minute));
+    if site.rests() {
         text.put_word(b" rest");
     } else {
         text.put_word(b" busy");
@@ -63,6 +63,7 @@ fn put_outcome(text: &mut Text, outcome: Outcome)
         Outcome::Quiet => {}
         Outcome::Note(entry) => {
             text.put_word(b" NOTE");
+            // No From leads from usize to u64.
             text.put_number(entry as u64);
         }
         Outcome::Nothing => text.put_word(b" NONE"),
@@ -71,8 +72,8 @@ fn put_outcome(text: &mut Text, outcome: Outcome)
 }
 
 // The text of the line after an act.
-fn act_text(a: Site, b: Site, outcome: Outcome) -> Text
-    ensures { result ≡ act_line a b outcome }
+fn act_text(a: &Site, b: &Site, outcome: Outcome) -> Text
+    ensures { result ≡ act_line a.now b.now outcome }
 {
     let mut text = Text::new();
     text.put_word(b"A");
@@ -91,7 +92,7 @@ pub fn act_line(a: Site, b: Site, outcome: Outcome, out: &mut [u8]) -> Result<us
     if out.len() < Line::ROOM {
         return Err(NoRoom);
     }
-    Ok(act_text(a, b, outcome).put(out))
+    Ok(act_text(&a, &b, outcome).put(out))
 }
 
 // Why two sites were not opened.

@@ -7,7 +7,8 @@ ghost use Rattle.lines.specs.Stream.{counted};
 use crate::stream::Failed;
 use std::io::Read;
 
-// Reads until the lent bytes are full, the reader ends or a read fails.
+// Reads until the lent bytes are full, the reader ends or a read fails. It is a loop over reads: what
+// the library's read_exact leaves after a failure is said nowhere, and the count has to hold then too.
 fn fill<R: Read>(reader: &mut R, bytes: &mut [u8]) -> Result<usize, Failed>
     ensures count { IsPrefixLen (counted result) bytes.new }
     ensures consumed { Consumes (R.remaining reader.old) (R.remaining reader.new) (take (counted result) bytes.new) }
@@ -16,12 +17,8 @@ fn fill<R: Read>(reader: &mut R, bytes: &mut [u8]) -> Result<usize, Failed>
     let mut count = 0;
     while count < bytes.len() {
         match reader.read(&mut bytes[count..]) {
-            Ok(0) => {
-                break;
-            }
-            Ok(n) => {
-                count += n;
-            }
+            Ok(0) => break,
+            Ok(n) => count += n,
             Err(_) => return Err(Failed { count }),
         }
     }

@@ -11,11 +11,11 @@
 
 ghost use Rattle.std.specs.Prelude.{◌≡◌, [], ◌∷◌, ◌+◌, ◌≤◌, length, take};
 ghost use Rattle.wac.specs.Limits.{chain_places};
-ghost use Rattle.decision.specs.Question.{reply_of, request_of, refusal_number, refusal_record};
+ghost use Rattle.decision.specs.Question.{reply_of, refusal_number, refusal_record};
 ghost use Rattle.lines.specs.Question.{line_room, granted, line, line_of, Asks, Answers};
 
 use crate::text::Text;
-use decision::{Refused, Verdict};
+use decision::{Refused, Request, Verdict};
 use wac::Table;
 
 // The numbers of a line are associated constants.
@@ -42,6 +42,7 @@ fn granted_line(minute: u32, steps: u32, passes: u64, chain: &[u8]) -> Text
     requires { length chain.now ≤ chain_places }
     ensures { result ≡ line granted (minute ∷ steps ∷ passes ∷ take steps chain.now) }
 {
+    // No From leads from u32 to usize.
     let count = (steps as usize).min(chain.len());
     let mut line = Text::new();
     line.put_word(b"GRANTED");
@@ -52,48 +53,40 @@ fn granted_line(minute: u32, steps: u32, passes: u64, chain: &[u8]) -> Text
 }
 
 // The line of a refusal, after these words.
-pub fn refused_line(words: &[u8], why: Refused) -> Text
+pub(crate) fn refused_line(words: &[u8], why: Refused) -> Text
     requires { length words.now + 43 ≤ line_room }
     ensures { result ≡ line words.now (refusal_number why ∷ refusal_record why ∷ []) }
 {
     let number = u64::from(decision::refusal_number(why));
+    // No From leads from usize to u64.
     let record = decision::refusal_record(why) as u64;
     Text::line(words, &[number, record])
 }
 
-// The line of a verdict.
-fn verdict_line(verdict: Verdict, chain: &[u8]) -> Text
+// The line of a verdict, or of why there is none.
+fn verdict_line(verdict: Result<Verdict, Refused>, chain: &[u8]) -> Text
     requires { length chain.now ≤ chain_places }
     ensures { result ≡ line_of (reply_of verdict) chain.now }
 {
     match verdict {
-        Verdict::Granted(minute, steps, passes) => granted_line(minute, steps, passes, chain),
-        Verdict::NoChain(passes) => Text::line(b"NO-CHAIN", &[passes]),
-        Verdict::GrantedLong(minute, passes) => {
+        Ok(Verdict::Granted(minute, steps, passes)) => granted_line(minute, steps, passes, chain),
+        Ok(Verdict::NoChain(passes)) => Text::line(b"NO-CHAIN", &[passes]),
+        Ok(Verdict::GrantedLong(minute, passes)) => {
             Text::line(b"GRANTED-LONG", &[u64::from(minute), passes])
         }
-        Verdict::Refused(why) => refused_line(b"REFUSED", why),
+        Err(why) => refused_line(b"REFUSED", why),
     }
 }
 
-// Asks a question, and writes the line of its verdict.
-fn put_asked(out: &mut [u8], file: &[u8], owner: u8, asker: u8, rights: u8, at: u32) -> usize
+// Asks a question, and puts the line of its verdict to the front of the lent bytes.
+fn put_asked(out: &mut [u8], file: &[u8], request: Request) -> usize
     requires { line_room ≤ length out.old }
-    ensures { Asks file.now (request_of owner asker rights at) out.old result out.new }
+    ensures { Asks file.now request out.old result out.new }
 {
     let mut minutes = [0u32; Table::ENTRIES];
     let mut steps = [0u32; Table::ENTRIES];
     let mut chain = [0u8; Table::CHAIN_PLACES];
-    let verdict = decision::ask(
-        file,
-        owner,
-        asker,
-        rights,
-        at,
-        &mut minutes,
-        &mut steps,
-        &mut chain,
-    );
+    let verdict = decision::ask(file, request, &mut minutes, &mut steps, &mut chain);
     verdict_line(verdict, &chain).put(out)
 }
 
@@ -105,10 +98,14 @@ pub fn question_line(question: &[u8], out: &mut [u8]) -> Result<usize, NoRoom>
     if out.len() < Line::ROOM {
         return Err(NoRoom);
     }
-    if question.len() < Line::REQUEST {
+    let [owner, asker, rights, t0, t1, t2, t3, file @ ..] = question else {
         return Ok(Text::line(b"REFUSED", &[Line::CUT_SHORT, 0]).put(out));
-    }
-    let at = wac::word_of(question[3], question[4], question[5], question[6]);
-    let file = &question[Line::REQUEST..];
-    Ok(put_asked(out, file, question[0], question[1], question[2], at))
+    };
+    let request = Request {
+        owner: *owner,
+        asker: *asker,
+        rights: *rights,
+        at: wac::word_of(*t0, *t1, *t2, *t3),
+    };
+    Ok(put_asked(out, file, request))
 }

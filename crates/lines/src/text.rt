@@ -6,8 +6,9 @@ ghost use Rattle.lines.specs.Question.{line_room, line};
 use crate::question::Line;
 use std::marker::Model;
 
-// A number that can stand in a line.
-pub trait Numeral: Copy {
+// A number that can stand in a line. The library's Into relates a value to what it may become; a clause
+// here names the number itself.
+pub(crate) trait Numeral: Copy {
     ghost value: { Self → ℕ };
 
     // The number in 64 bits.
@@ -31,9 +32,10 @@ impl Numeral for u64 {
     }
 }
 
-// What is written of a line: at most as many bytes as any line needs.
+// What is written of a line: at most as many bytes as any line needs. No Display writes it: of that a
+// contract tells the bytes where writing went well, and not that it does, and each line fits.
 #[derive(Drop)]
-pub struct Text {
+pub(crate) struct Text {
     bytes: [u8; Line::ROOM],
     count: usize,
 }
@@ -50,7 +52,7 @@ impl Model for Text {
 
 impl Text {
     // Nothing yet.
-    pub fn new() -> Text
+    pub(crate) fn new() -> Text
         ensures { result ≡ [] }
     {
         Text {
@@ -60,7 +62,7 @@ impl Text {
     }
 
     // A word.
-    pub fn put_word(&mut self, word: &[u8])
+    pub(crate) fn put_word(&mut self, word: &[u8])
         requires { length self.old + length word.now ≤ line_room }
         ensures text { self.new ≡ self.old ++ word.now }
         ensures len { length self.new ≡ length self.old + length word.now }
@@ -72,7 +74,7 @@ impl Text {
 
     // A space, and a number in decimal.
     #[tactic(auto, using(crate::proofs::TextLaws::decimal_most))]
-    pub fn put_number(&mut self, n: u64)
+    pub(crate) fn put_number(&mut self, n: u64)
         requires { length self.old + length (field n) ≤ line_room }
         ensures text { self.new ≡ self.old ++ field n }
         ensures len { length self.new ≤ length self.old + 21 }
@@ -84,7 +86,7 @@ impl Text {
     }
 
     // Numbers as fields.
-    pub fn put_numbers<N: Numeral>(&mut self, numbers: &[N])
+    pub(crate) fn put_numbers<N: Numeral>(&mut self, numbers: &[N])
         requires { length self.old + length (fields (map N.value numbers.now)) ≤ line_room }
         ensures text { self.new ≡ self.old ++ fields (map N.value numbers.now) }
         ensures len { length self.new ≡ length self.old + length (fields (map N.value numbers.now)) }
@@ -95,7 +97,7 @@ impl Text {
     }
 
     // A whole line of a word and numbers.
-    pub fn line(word: &[u8], numbers: &[u64]) -> Text
+    pub(crate) fn line(word: &[u8], numbers: &[u64]) -> Text
         requires { length word.now + length (fields numbers.now) + 1 ≤ line_room }
         ensures { result ≡ line word.now numbers.now }
     {
@@ -107,7 +109,7 @@ impl Text {
     }
 
     // Puts the text to the front of the lent bytes, and gives its length.
-    pub fn put(&self, out: &mut [u8]) -> usize
+    pub(crate) fn put(&self, out: &mut [u8]) -> usize
         requires { line_room ≤ length out.old }
         ensures { Put out.old 0 self.now result out.new }
     {
