@@ -131,6 +131,7 @@ impl Note {
     }
 
     // Is every field in range?
+    #[tactic(auto, using(crate::proofs::SiteLaws::formed_by, crate::proofs::SiteLaws::number_test))]
     fn is_formed(self) -> bool
         ensures { result ≡ formed self }
     {

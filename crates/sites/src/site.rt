@@ -126,6 +126,7 @@ fn room_for_note(room: usize) -> Result<(), NoteRefused>
 
 impl Site {
     // A site that never rests and shows nothing granted.
+    #[tactic(auto, unfolding(crate::specs::Site::blank_site))]
     fn blank() -> Site
         ensures { result ≡ blank_site }
     {
@@ -147,6 +148,7 @@ impl Site {
     }
 
     // A site on an accepted file.
+    #[tactic(auto, unfolding(crate::specs::Site::opened_site))]
     fn on(file: &[u8], request: Request, session: u32) -> Site
         requires { (length file.now ≤ largest_file) × (request.asker < keys) }
         ensures { result ≡ opened_site file.now request session }
@@ -274,6 +276,7 @@ impl Site {
     }
 
     // The lowest entry from `from` on whose minute is above its receipted minute.
+    #[tactic(auto, using(crate::proofs::SiteLaws::next_here, crate::proofs::SiteLaws::next_over, crate::proofs::SiteLaws::next_past))]
     fn next_due(&self, from: usize) -> Option<usize>
         ensures { result ≡ next_of self.now from }
     {
@@ -322,6 +325,7 @@ impl Site {
     }
 
     // The owner's mark 10 minute, and granted if it is not 0.
+    #[tactic(auto, unfolding(crate::specs::Site::showing, decision::specs::Table::table_of))]
     pub fn shown(&self) -> Showing
         ensures { result ≡ showing self.now }
     {
