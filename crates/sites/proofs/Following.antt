@@ -184,7 +184,7 @@ module _ {f g : List ℕ} {q : Request} {session : ℕ} (word : session ≤ with
 -- ---- opening
 
 ready_not : {why : Refused} → ◌≡◌ {A = Result ⊤ Refused} (Ok tt) (Err why) → ⊥
-ready_not e = let z : ◌≡◌ {A = ℕ} 0 1 = cc in omega arith
+ready_not e = grind arith
 
 -- a site that is ready was opened with a file and a request in order, and stands
 module _ {s : List ℕ} {q : Request} {session : ℕ} {p : Party} (begun : Begun s q session p) where

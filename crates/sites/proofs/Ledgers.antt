@@ -276,7 +276,7 @@ module _ {s : List ℕ} {q : Request} {session : ℕ} (word : session ≤ withou
         tables = rw (raise_said said kind) (raise_ledger st said fields.entry);
         writes = λ w. rw (raise_said said kind) (ap (λ n. n ∷ map note_of w) (ap note_of taken ∙ ap said_by back));
         honest = λ w. honest_more (rw taken (written_honest session word (receipt_of said) reply h.fits h.of_session));
-        refused = λ why e. absurd (let z : ◌≡◌ {A = ℕ} 0 1 = cc in omega arith);
+        refused = λ why e. absurd (grind arith);
       })
     where
       reply : Fields (receipt_of said)
@@ -289,7 +289,7 @@ module _ {s : List ℕ} {q : Request} {session : ℕ} (word : session ≤ withou
         tables = rw (receipt_said said g.1, on-time) (receipt_ledger st said fields.entry);
         writes = λ w. rw (receipt_said said g.1, on-time) refl;
         honest = λ w all. all;
-        refused = λ why e. absurd (let z : ◌≡◌ {A = ℕ} 0 1 = cc in omega arith);
+        refused = λ why e. absurd (grind arith);
       })
   follows (Err why) answer at bytes = rw (at, bytes) (
       let late = and_both _ _ (refused_late answer) in

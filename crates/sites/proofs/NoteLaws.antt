@@ -1,6 +1,6 @@
 -- A note's bytes say the note, and lent bytes have it in the first 12 places.
 use mathlib.Core.Path.{◌≡◌, refl, sym, ap, ◌∙◌}
-use mathlib.Core.Bool.{true, false, not, ◌||◌}
+use mathlib.Core.Bool.{true, not, ◌||◌, true≢false}
 use mathlib.Core.List.{List}
 use Prim.Native.Nat.{ℕ, ◌≤◌, ◌<◌}
 use native.Mathlib.Omega.{arith}
@@ -51,7 +51,7 @@ formed_fields n ok =
     record { kind = a.0; some = λ z. nonzero z b.0; symbol = ltb-true _ _ c.0; entry = c.1 }
   where
     nonzero : n.minute ≡ 0 → not (eqb n.minute 0) ≡ true → ⊥
-    nonzero z h = let q : false ≡ true = sym (ap not (eq-eqb _ _ z)) ∙ h in (let w : ◌≡◌ {A = ℕ} 0 1 = cc in omega arith)
+    nonzero z h = true≢false (sym h ∙ ap not (eq-eqb _ _ z))
 
 pub fields_formed : (n : Note) → Fields n → formed n ≡ true
 unfolding formed

@@ -19,39 +19,26 @@ use Rattle.wac.proofs.Cases.{first_none, first_holds, first_fails, first_passed,
 use Rattle.wac.proofs.Tests.{and_true, false_and, and_both, and_false, all_below_true, all_below_false}
 use Rattle.wac.proofs.FileLaws.{file_kept}
 use Rattle.rewriting.specs.Weighing.{minutes}
-use Rattle.decision.specs.Table.{is_entry, number, entry_number, NumberOf}
+use Rattle.decision.specs.Table.{is_entry, number, NumberOf}
 use Rattle.decision.specs.Engine.{Accepted}
 use Rattle.decision.specs.Question.{answered_as, Settles, Settles.refused, Settles.settled}
 use Rattle.decision.specs.declared.request.Request.{Request}
 use Rattle.decision.specs.declared.lens.Lens.TheVariants.{Minutes}
 use Rattle.decision.specs.declared.question.Refused.{Refused}
-use Rattle.decision.proofs.TableLaws.{number_low}
 use Rattle.decision.proofs.PassingLaws.{started}
 use Rattle.sites.specs.Notes.{note_length, raise_kind, receipt_kind, CodesKind, note_from, formed, note_ok}
-use Rattle.sites.specs.Site.{start_of, minute_at, receipted_at, entry_of, taken_as, note_cases, site_after, bytes_after, Takes, DueAt, NextDue, waiting, next_of, send_cases, restful}
+use Rattle.sites.specs.Site.{start_of, minute_at, receipted_at, entry_of, note_cases, DueAt, NextDue, waiting, next_of, send_cases, restful}
 use Rattle.sites.specs.declared.note.Note.{Note}
 use Rattle.sites.specs.declared.site.Site.{Site}
 use Rattle.sites.specs.declared.note.NoteKind.{NoteKind}
 use Rattle.sites.specs.declared.note.NoteKind.TheVariants.{Raise, Receipt}
 use Rattle.sites.specs.declared.note.NoKind.{NoKind}
-use Rattle.sites.specs.declared.site.NoteRefused.{NoteRefused}
-use Rattle.sites.specs.declared.site.Taking.{Taking}
 use Rattle.sites.proofs.NoteLaws.{formed_fields}
 
--- what the number of an entry says, 2,592 standing for none
-module _ (k s a : ℕ) where
-  -- it is below 2,592 exactly where there is such an entry
-  pub entry_test : ltb (entry_number k s a) entries ≡ is_entry k s a
-  entry_test = turn (is_entry k s a) refl
-    where
-      turn : (t : Bool) → is_entry k s a ≡ t → ltb (cond t (number k s a) entries) entries ≡ t
-      turn true e = lt-ltb _ _ (number_low k s a e)
-      turn false e = refl
-
-  -- and its number is some exactly there
-  pub number_test : (o : Option ℕ) → NumberOf k s a o → is_some o ≡ is_entry k s a
-  number_test (Some n) e = sym e.0
-  number_test None e = sym e
+-- the number of an entry is some exactly where there is such an entry
+pub number_test : (k s a : ℕ) (o : Option ℕ) → NumberOf k s a o → is_some o ≡ is_entry k s a
+number_test k s a (Some n) e = sym e.0
+number_test k s a None e = sym e
 
 -- a note in order, by the tests that it passes
 module _ (n : Note) where
@@ -63,12 +50,9 @@ module _ (n : Note) where
   formed_by (Ok Receipt) e = rw (← e)
   formed_by (Err k) e = rw (ne_eqb _ _ e.0, ne_eqb _ _ e.1)
 
-  -- a note in order that is no raise is a receipt, and names an entry
+  -- a note in order that is no raise is a receipt
   pub other_kind : formed n ≡ true → (n.kind ≡ raise_kind → ⊥) → n.kind ≡ receipt_kind
   other_kind ok h = eqb-true n.kind receipt_kind (rw (ne_eqb n.kind raise_kind h) at (formed_fields n ok).kind)
-
-  pub entry_low : formed n ≡ true → entry_of n < entries
-  entry_low ok = ltb-true _ _ (entry_test _ _ _ ∙ (formed_fields n ok).entry)
 
 -- bytes that say a note in order
 pub note_whole : (b : List ℕ) → note_ok b ≡ true → (length b ≡ note_length) × (formed (note_from b) ≡ true)
@@ -131,15 +115,6 @@ module _ (x : Site) (b : List ℕ) (room kind : ℕ) where
       let first = first_passed _ _ _ e in
       let whole = note_whole b (not-false _ (first_passed _ _ _ first.1).0) in
       (ltb-false _ _ first.0, whole.0, whole.1)
-
--- a note is taken by its answer, and the site and the lent bytes are those of it
-pub takes_as : {x : Site} {b l : List ℕ} {r : Taking} {l' : List ℕ} {answer : Result NoteKind NoteRefused} → r.answer ≡ answer → taken_as r.answer ≡ first_of (note_cases x b (length l)) (note_from b).kind →
-    r.site ≡ site_after answer x (note_from b) → l' ≡ bytes_after answer l (note_from b) → Takes x b l r l'
-takes_as {x} {b} {l} told case site bytes = record {
-  answer = case;
-  site = site ∙ sym (ap (λ a. site_after a x (note_from b)) told);
-  bytes = bytes ∙ sym (ap (λ a. bytes_after a l (note_from b)) told);
-}
 
 -- a list of 0 that is without end at the asker's two marks is the start
 module _ (asker : ℕ) (h : asker < keys) where

@@ -35,8 +35,8 @@ module _ {x : Site} where
   -- `work`: one site
   pub works_unique : {x₁ x₂ : Site} → Works x x₁ → Works x x₂ → x₁ ≡ x₂
   works_unique (Works.worked N m settles e) (Works.worked N' m' settles' e') = e ∙ ap (worked_site x) (settles_unique settles settles').1 ∙ sym e'
-  works_unique (Works.worked N m settles e) (Works.refused why settles' e') = absurd (let z : ◌≡◌ {A = ℕ} 0 1 = cc (settles_unique settles settles').0 in omega arith)
-  works_unique (Works.refused why settles e) (Works.worked N m settles' e') = absurd (let z : ◌≡◌ {A = ℕ} 0 1 = cc (settles_unique settles settles').0 in omega arith)
+  works_unique (Works.worked N m settles e) (Works.refused why settles' e') = absurd (let e = (settles_unique settles settles').0 in grind arith)
+  works_unique (Works.refused why settles e) (Works.worked N m settles' e') = absurd (let e = (settles_unique settles settles').0 in grind arith)
   works_unique (Works.refused why settles e) (Works.refused why' settles' e') = e ∙ sym e'
 
 -- the refusal of a number

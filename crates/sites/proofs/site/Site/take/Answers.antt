@@ -1,12 +1,11 @@
 -- `take` meets its contract: what becomes of the note, and then the site and the receipt.
 use mathlib.Core.Bool.{true}
-use mathlib.Core.Path.{◌≡◌, refl, sym, ap, ◌∙◌}
+use mathlib.Core.Path.{◌≡◌, sym, ap, ◌∙◌}
 use Prim.Native.Nat.{◌≤◌}
 use native.Mathlib.Omega.{arith}
 use lib.ListN.{length}
-use lib.Seq.{sets}
-use Rattle.sites.specs.Notes.{note_length, note_from, note_bytes, formed}
-use Rattle.sites.specs.Site.{taken_as, entry_of, receipt_of, raised_site, receipted_site}
+use Rattle.sites.specs.Notes.{note_length, note_from, formed}
+use Rattle.sites.specs.Site.{taken_as}
 use mathlib.Core.List.{List}
 use Prim.Native.Nat.{ℕ}
 use Rattle.wac.specs.Answers.{first_of}
@@ -15,7 +14,7 @@ use Rattle.sites.specs.declared.site.Site.{Site}
 use Rattle.sites.specs.declared.note.NoteKind.{NoteKind}
 use Rattle.sites.specs.declared.site.NoteRefused.{NoteRefused}
 use Rattle.std.specs.Prelude.{Result, Ok}
-use Rattle.sites.proofs.SiteLaws.{taken_whole, takes_as}
+use Rattle.sites.proofs.SiteLaws.{taken_whole}
 use Rattle.sites.proofs.site.Site.take.Goals as goal
 
 -- bytes that are taken have room for a receipt, and are a note
@@ -48,26 +47,3 @@ pub entry-requires-in-Ok-Receipt : goal.entry-requires-in-Ok-Receipt
 entry-requires-in-Ok-Receipt c =
     let told = c.in-Ok-Receipt.is ∙ ap Ok (rw c.in-Ok-Receipt.is at c.in-Ok-Receipt.field-0-is) in
     ap formed c.read-said-in-Ok-Receipt.ensures ∙ (whole _ _ c.answer_for-answer.ensures told).2
-
-pub returns-in-Err : goal.returns-in-Err
-returns-in-Err c = takes_as c.in-Err.is c.answer_for-answer.ensures refl refl
-
-pub returns-in-Ok-Raise : goal.returns-in-Ok-Raise
-returns-in-Ok-Raise c =
-    let args = c.args in
-    let said = c.read-said in
-    takes_as (c.in-Ok-Raise.is ∙ ap Ok (rw c.in-Ok-Raise.is at c.in-Ok-Raise.field-0-is)) c.answer_for-answer.ensures
-    (c.raise_at-raised.ensures
-    ∙ ap (λ e. raised_site args.self e said.result.minute) c.entry.ensures.0
-    ∙ ap (λ n. raised_site args.self (entry_of n) n.minute) said.ensures)
-    (c.write.ensures ∙ ap (λ n. sets args.receipt.now 0 (note_bytes n)) (c.receipt.ensures ∙ ap receipt_of said.ensures))
-
-pub returns-in-Ok-Receipt : goal.returns-in-Ok-Receipt
-returns-in-Ok-Receipt c =
-    let args = c.args in
-    let said = c.read-said-in-Ok-Receipt in
-    takes_as (c.in-Ok-Receipt.is ∙ ap Ok (rw c.in-Ok-Receipt.is at c.in-Ok-Receipt.field-0-is)) c.answer_for-answer.ensures
-    (c.receipt_at-told.ensures
-    ∙ ap (λ e. receipted_site args.self e said.result.minute) c.entry-in-Ok-Receipt.ensures.0
-    ∙ ap (λ n. receipted_site args.self (entry_of n) n.minute) said.ensures)
-    refl
