@@ -11,13 +11,13 @@ use borrow.Author.Tests.{lt-ltb, le-ltb, le-leb, lt-leb, eq-eqb, leb-true, eqb-t
 use lib.Dec.{eqb}
 use lib.ListN.{get_or, take, drop, length-take, get_or-eq_default}
 use lib.Seq.{get_or-drop, get_or-take}
-use Rattle.wac.specs.Limits.{without_end, unused, authorization_kind}
+use Rattle.wac.specs.Limits.{record_bytes, without_end, unused, authorization_kind}
 use Rattle.wac.specs.Bytes.{AreBytes, word}
 use Rattle.wac.specs.Ranges.{a_key, an_identifier, ◌to◌, names, authorizations, ranged, row_of, range_at, in_range, spare, byte_ok, all_below, record_ok}
 use Rattle.wac.specs.Record.{word_at, cert_from, bytes_of, IsName, IsAuthorization, IdOk, Dated, Lawful}
 use Rattle.wac.specs.declared.record.Range.{Range}
 use Rattle.wac.specs.declared.cert.Cert.{Cert}
-use Rattle.wac.proofs.Tests.{and_both, and_true, and_false, all_below_at}
+use Rattle.wac.proofs.Tests.{and_both, and_true, and_false, all_below_at, all_below_same}
 
 -- the bytes from a place on are bytes
 pub drop_bytes : (s : List ℕ) (at : ℕ) → AreBytes s → AreBytes (drop at s)
@@ -235,3 +235,40 @@ kept_iff_lawful c dated =
       λ ok. subst Lawful same (kept_lawful (bytes_of c) (subst Dated (sym same) dated) ok),
       λ lawful. lawful_kept (bytes_of c) (subst Lawful (sym same) lawful),
     )
+
+-- a record is its first 18 bytes
+module _ (s : List ℕ) where
+  first_at : (i : ℕ) → i < record_bytes → get_or (take record_bytes s) i 0 ≡ get_or s i 0
+  first_at i low = get_or-take record_bytes s i 0 low
+
+  first_byte : (i : ℕ) → i < ranged → byte_ok (take record_bytes s) i ≡ byte_ok s i
+  unfolding byte_ok
+  first_byte i low = rw (first_at 0 (omega arith), first_at 4 (omega arith), first_at i (omega arith)) refl
+
+  pub first_kept : record_ok (take record_bytes s) ≡ record_ok s
+  unfolding record_ok
+  first_kept = all_below_same ranged (byte_ok (take record_bytes s)) (byte_ok s) first_byte
+
+  pub first_cert : cert_from (take record_bytes s) ≡ cert_from s
+  unfolding cert_from
+  first_cert =
+      rw (
+        first_at 0 (omega arith),
+        first_at 1 (omega arith),
+        first_at 2 (omega arith),
+        first_at 3 (omega arith),
+        first_at 4 (omega arith),
+        first_at 5 (omega arith),
+        first_at 6 (omega arith),
+        first_at 7 (omega arith),
+        first_at 8 (omega arith),
+        first_at 9 (omega arith),
+        first_at 10 (omega arith),
+        first_at 11 (omega arith),
+        first_at 12 (omega arith),
+        first_at 13 (omega arith),
+        first_at 14 (omega arith),
+        first_at 15 (omega arith),
+        first_at 16 (omega arith),
+        first_at 17 (omega arith),
+      ) refl

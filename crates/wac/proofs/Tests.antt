@@ -49,6 +49,12 @@ all_below_false (suc n) p k l h =
     (λ l'. rw (all_below_false n p k l' h))
     (eq-or-lt_of_le (le_of_suc-le-suc l))
 
+-- two tests that agree below n
+pub all_below_same : (n : ℕ) (p q : ℕ → Bool) → ((k : ℕ) → k < n → p k ≡ q k) → all_below n p ≡ all_below n q
+unfolding all_below
+all_below_same zero p q h = refl
+all_below_same (suc n) p q h = rw (all_below_same n p q (λ k l. h k (omega arith)), h n (omega arith)) refl
+
 -- no number below n passes the test
 pub lowest_none : (n : ℕ) (p : ℕ → Bool) → ((k : ℕ) → k < n → p k ≡ false) → lowest n p ≡ n
 unfolding lowest

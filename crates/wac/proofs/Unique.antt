@@ -55,7 +55,7 @@ back_unique r q e = told_apart comes_back result_of result_back r q e
 pub check_unique : (r q : Result ℕ Refusal) (a : Answer ℕ) → comes_back r ≡ a → comes_back q ≡ a → r ≡ q
 check_unique r q a e f = back_unique r q (e ∙ sym f)
 
--- `view_of`: one view
+-- `View::of`: one view
 pub view_unique : (lent : Bor (List ℕ)) (v w : View) → ViewOf lent v → ViewOf lent w → v ≡ w
 view_unique lent v w e f =
     let file : v.file ≡ w.file = e.file ∙ sym f.file in
@@ -70,7 +70,7 @@ alone_unique s n r q e f = back_unique r q (e.answer ∙ sym f.answer)
 pub fetch_unique : (s : List ℕ) (n : ℕ) (r q : Result Cert Refusal) → FetchedFrom s n r → FetchedFrom s n q → r ≡ q
 fetch_unique s n r q e f = back_unique r q (e.answer ∙ sym f.answer)
 
--- `fetch`: one result, whatever the view holds
+-- `View::fetch`: one result, whatever the view holds
 pub fetched_by_unique : (kept : Result ℕ Refusal) (s : List ℕ) (n : ℕ) (r q : Result Cert Refusal) → FetchedBy kept s n r → FetchedBy kept s n q → r ≡ q
 fetched_by_unique kept s n r q e f = back_unique r q (e.answer ∙ sym f.answer)
 

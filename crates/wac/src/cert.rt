@@ -1,17 +1,19 @@
 // A certificate by value, read from the 18 bytes of a record and written to them.
-ghost use Rattle.std.specs.Prelude.{◌≡◌, ◌+◌, ◌≤◌, length, drop};
+ghost use Rattle.std.specs.Prelude.{◌≡◌, ◌+◌, ◌≤◌, length};
 ghost use Rattle.std.proofs.Math.Seq.{paste};
 ghost use Rattle.wac.specs.Limits.{record_bytes};
 ghost use Rattle.wac.specs.Record.{word_at, cert_from, bytes_of};
 
-use crate::bytes;
+use crate::bytes::{word_bytes, word_of};
 use crate::limits::Table;
 
-// The three identifier bytes of a subject.
+// The three identifier bytes of a subject. A tuple and no array: the theorems speak of every `Cert`
+// (`read_back`), and in them an array may be a list of any length.
 #[derive(Clone, Copy)]
 pub struct Ids(pub u8, pub u8, pub u8);
 
-// A certificate, as a record's bytes hold it.
+// A certificate, as a record's bytes hold it. Its kind is a byte and no enum: any byte can stand there,
+// and what is against the table is refused by `check` and `append`.
 #[derive(Clone, Copy)]
 pub struct Cert {
     pub kind: u8,
@@ -27,32 +29,29 @@ pub struct Cert {
 }
 
 // The four bytes from `at` on as one number.
-fn word_at(file: &[u8], at: usize) -> u32
-    requires { at + 4 ≤ length file.now }
-    ensures { result ≡ word_at file.now at }
+fn word_at(bytes: &[u8; Table::RECORD], at: usize) -> u32
+    requires { at + 4 ≤ record_bytes }
+    ensures { result ≡ word_at bytes.now at }
 {
-    bytes::word_of(file[at], file[at + 1], file[at + 2], file[at + 3])
+    word_of(bytes[at], bytes[at + 1], bytes[at + 2], bytes[at + 3])
 }
 
-// The certificate whose record begins at `at`.
-pub fn cert_at(file: &[u8], at: usize) -> Cert
-    requires { at + record_bytes ≤ length file.now }
-    ensures { result ≡ cert_from (drop at file.now) }
+// The certificate that a record holds.
+#[tactic(auto, unfolding(crate::specs::Record::cert_from))]
+pub fn cert_from(bytes: &[u8; Table::RECORD]) -> Cert
+    ensures { result ≡ cert_from bytes.now }
 {
-    let ids = Ids(file[at + 5], file[at + 6], file[at + 7]);
-    let begins = word_at(file, at + 10);
-    let ends = word_at(file, at + 14);
     Cert {
-        kind: file[at],
-        issuer: file[at + 1],
-        left: file[at + 2],
-        subject: file[at + 3],
-        count: file[at + 4],
-        ids: ids,
-        mark: file[at + 8],
-        rights: file[at + 9],
-        not_before: begins,
-        not_after: ends,
+        kind: bytes[0],
+        issuer: bytes[1],
+        left: bytes[2],
+        subject: bytes[3],
+        count: bytes[4],
+        ids: Ids(bytes[5], bytes[6], bytes[7]),
+        mark: bytes[8],
+        rights: bytes[9],
+        not_before: word_at(bytes, 10),
+        not_after: word_at(bytes, 14),
     }
 }
 
@@ -60,18 +59,17 @@ pub fn cert_at(file: &[u8], at: usize) -> Cert
 pub fn bytes_of(cert: Cert) -> [u8; Table::RECORD]
     ensures { result ≡ bytes_of cert }
 {
-    let ids = cert.ids;
-    let begins = bytes::word_bytes(cert.not_before);
-    let ends = bytes::word_bytes(cert.not_after);
+    let begins = word_bytes(cert.not_before);
+    let ends = word_bytes(cert.not_after);
     [
         cert.kind,
         cert.issuer,
         cert.left,
         cert.subject,
         cert.count,
-        ids.0,
-        ids.1,
-        ids.2,
+        cert.ids.0,
+        cert.ids.1,
+        cert.ids.2,
         cert.mark,
         cert.rights,
         begins[0],

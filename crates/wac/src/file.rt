@@ -50,7 +50,7 @@ fn lowest_bad(file: &[u8], count: usize) -> Option<usize>
     ensures below { IfSome result (λ n. n < count) }
 {
     for n in 0..count {
-        if !record::record_ok(file, Table::HEADER + Table::RECORD * n) {
+        if !record::record_ok(&record::record_at(file, n)) {
             return Some(n);
         }
     }

@@ -18,5 +18,5 @@ pub use cert::{Cert, Ids};
 pub use file::check;
 pub use limits::{Table, table_limits};
 pub use refusal::{Refusal, number_of, record_of};
-pub use view::{View, count, fetch, fetch_in, record_alone, view_of};
+pub use view::{View, fetch_in, record_alone};
 pub use writer::append;

@@ -1,6 +1,7 @@
 // The permitted numbers of each byte of a record, and the one check that reads them.
-ghost use Rattle.std.specs.Prelude.{◌≡◌, ◌+◌, ◌<◌, ◌≤◌, length, drop};
-ghost use Rattle.wac.specs.Limits.{record_bytes};
+ghost use Rattle.std.specs.Prelude.{◌≡◌, ◌+◌, ◌<◌, ◌≤◌, length, take};
+ghost use Rattle.wac.specs.Limits.{certificates, record_bytes};
+ghost use Rattle.wac.specs.File.{place_of, record_at};
 ghost use Rattle.wac.specs.Ranges.{range_at, row_of, in_range, spare, byte_ok, record_ok, ranged};
 
 use crate::limits::Table;
@@ -119,30 +120,39 @@ fn is_spare(number: u8, i: usize) -> bool
     i < IDS_TO && IDS_FROM + number as usize <= i
 }
 
-// Is byte i of the record at `at` as the table says?
+// Is byte i of the record as the table says?
 #[tactic(auto, unfolding(crate::specs::Ranges::byte_ok))]
-fn byte_ok(file: &[u8], at: usize, i: usize) -> bool
-    requires { (at + record_bytes ≤ length file.now) × (i < ranged) }
-    ensures { result ≡ byte_ok (drop at file.now) i }
+fn byte_ok(bytes: &[u8; Table::RECORD], i: usize) -> bool
+    requires { i < ranged }
+    ensures { result ≡ byte_ok bytes.now i }
 {
-    let b = file[at + i];
-    if is_spare(file[at + NUMBER_AT], i) {
-        b == Table::UNUSED as u8
+    if is_spare(bytes[NUMBER_AT], i) {
+        bytes[i] == Table::UNUSED as u8
     } else {
-        within(range_at(file[at], i), b)
+        within(range_at(bytes[0], i), bytes[i])
     }
 }
 
-// Does the record at `at` keep to the table?
+// Does the record keep to the table?
 #[tactic(auto, using(crate::proofs::Tests::all_below_true, crate::proofs::Tests::all_below_false), unfolding(crate::specs::Ranges::record_ok))]
-pub fn record_ok(file: &[u8], at: usize) -> bool
-    requires { at + record_bytes ≤ length file.now }
-    ensures { result ≡ record_ok (drop at file.now) }
+pub fn record_ok(bytes: &[u8; Table::RECORD]) -> bool
+    ensures { result ≡ record_ok bytes.now }
 {
     for i in 0..RANGED {
-        if !byte_ok(file, at, i) {
+        if !byte_ok(bytes, i) {
             return false;
         }
     }
     true
+}
+
+// The bytes of record n.
+pub fn record_at(file: &[u8], n: usize) -> [u8; Table::RECORD]
+    requires { (n < certificates) × (place_of (n + 1) ≤ length file.now) }
+    ensures { result ≡ take record_bytes (record_at file.now n) }
+{
+    let at = Table::HEADER + Table::RECORD * n;
+    let mut bytes = [0u8; Table::RECORD];
+    bytes.copy_from_slice(&file[at..at + Table::RECORD]);
+    bytes
 }

@@ -7,7 +7,6 @@ ghost use Rattle.wac.specs.File.{cert_at};
 ghost use Rattle.wac.specs.View.{number_cases, ReadAlone, ViewOf, FetchedBy, FetchedFrom};
 
 use crate::cert::Cert;
-use crate::limits::Table;
 use crate::refusal::Refusal;
 use crate::{cert, file, record};
 
@@ -19,11 +18,11 @@ fn record_below(file: &[u8], count: usize, n: usize) -> Result<Cert, Refusal>
     if count <= n {
         return Err(Refusal::NoSuch);
     }
-    let at = Table::HEADER + Table::RECORD * n;
-    if !record::record_ok(file, at) {
+    let record = record::record_at(file, n);
+    if !record::record_ok(&record) {
         return Err(Refusal::Against(n));
     }
-    Ok(cert::cert_at(file, at))
+    Ok(cert::cert_from(&record))
 }
 
 // Record n alone, in constant time: its certificate; or 10 to 14 by the frame, 24 where the number is
@@ -44,21 +43,31 @@ pub struct View<'a> {
     kept: Result<usize, Refusal>,
 }
 
-// The view of a lent file, which is checked here once.
-pub fn view_of<'a>(file: &'a [u8]) -> View<'a>
-    ensures { ViewOf file.entry result }
-{
-    View {
-        file,
-        kept: file::check(file),
+impl<'a> View<'a> {
+    // The view of a lent file, which is checked here once.
+    pub fn of(file: &'a [u8]) -> View<'a>
+        ensures { ViewOf file.entry result }
+    {
+        View {
+            file,
+            kept: file::check(file),
+        }
     }
-}
 
-// What the view's check found: the count of an accepted file, or 10 to 15.
-pub fn count<'a>(view: View<'a>) -> Result<usize, Refusal>
-    ensures { result ≡ view.entry.kept }
-{
-    view.kept
+    // What the view's check found: the count of an accepted file, or 10 to 15.
+    pub fn count(self) -> Result<usize, Refusal>
+        ensures { result ≡ self.entry.kept }
+    {
+        self.kept
+    }
+
+    // Certificate n of the file that the view holds, in constant time: 10 to 15 as its check found, then
+    // 24 where the number is not below the count.
+    pub fn fetch(self, n: usize) -> Result<Cert, Refusal>
+        ensures { FetchedBy self.entry.kept self.entry.file.now n result }
+    {
+        fetch_kept(self.file, self.kept, n)
+    }
 }
 
 // What a view that keeps this answer of a check fetches: the answer's refusal, else what record n
@@ -70,17 +79,9 @@ fn fetch_kept(file: &[u8], kept: Result<usize, Refusal>, n: usize) -> Result<Cer
     record_alone(file, n)
 }
 
-// Certificate n of the file that the view holds, in constant time: 10 to 15 as its check found, then
-// 24 where the number is not below the count.
-pub fn fetch<'a>(view: View<'a>, n: usize) -> Result<Cert, Refusal>
-    ensures { FetchedBy view.entry.kept view.entry.file.now n result }
-{
-    fetch_kept(view.file, view.kept, n)
-}
-
 // The same for a caller that has the lent file itself: it is checked as a whole at each call.
 pub fn fetch_in(file: &[u8], n: usize) -> Result<Cert, Refusal>
     ensures { FetchedFrom file.now n result }
 {
-    fetch(view_of(file), n)
+    View::of(file).fetch(n)
 }

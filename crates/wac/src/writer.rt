@@ -15,8 +15,7 @@ use crate::{cert, file, record};
 fn cert_ok(cert: Cert) -> bool
     ensures { result ≡ record_ok (bytes_of cert) }
 {
-    let bytes = cert::bytes_of(cert);
-    record::record_ok(&bytes, 0)
+    record::record_ok(&cert::bytes_of(cert))
 }
 
 // The answer where the used part is a file with this count: full, the new certificate, room.

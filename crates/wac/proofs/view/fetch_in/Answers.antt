@@ -3,4 +3,4 @@ use Rattle.wac.proofs.ViewLaws.{view_fetches}
 use Rattle.wac.proofs.view.fetch_in.Goals as goal
 
 pub returns : goal.returns
-returns c = view_fetches c.args.file c.view_of.result c.view_of.ensures c.args.n c.fetch.result c.fetch.ensures
+returns c = view_fetches c.args.file c.of.result c.of.ensures c.args.n c.fetch.result c.fetch.ensures
