@@ -1,8 +1,12 @@
 // A question in order: what the engine's functions are asked.
+ghost use Rattle.std.specs.Prelude.{◌≡◌, ◌<◌};
 ghost use Rattle.wac.specs.Bytes.{AreBytes};
+ghost use Rattle.wac.specs.Record.{Lawful};
+ghost use Rattle.wac.specs.File.{count_of, cert_at};
 ghost use Rattle.decision.specs.Question.{Ready};
 
 use crate::request::Request;
+use wac::Cert;
 
 // An accepted file, its count, and a request that no refusal stops.
 #[derive(Clone, Copy)]
@@ -12,4 +16,18 @@ pub struct Inquiry<'a> {
     pub request: Request,
     ghost bytes: { AreBytes file.now },
     ghost ready: { Ready file.now request count },
+}
+
+impl<'a> Inquiry<'a> {
+    // Certificate i of the file.
+    pub fn cert(self, i: usize) -> Cert
+        requires { i < count_of self.file.now }
+        ensures same { result ≡ cert_at self.entry.file.now i }
+        ensures lawful { Lawful result }
+    {
+        match wac::record_alone(self.file, i) {
+            Ok(cert) => cert,
+            Err(_) => unreachable!(),
+        }
+    }
 }

@@ -27,7 +27,7 @@ impl<'a> Row<'a> {
             place,
         };
         let e = entry.number();
-        let read = self.read_side(RightSide { cert }, cert.subject as usize, place);
+        let read = self.read_from(RightSide { cert }, 0, cert.subject as usize, place);
         let offer = self.lens.joined(self.lens.weight(cert), read);
         new[e] = self.lens.better(new[e], offer);
     }
@@ -80,9 +80,7 @@ impl<'a> Inquiry<'a> {
         ensures { Passed old.entry.lens self.entry.file.now self.entry.request old.entry.table.now new.old new.new }
     {
         for i in 0..self.count {
-            let Ok(cert) = wac::record_alone(self.file, i) else {
-                continue;
-            };
+            let cert = self.cert(i);
             if old.lens.is_live(self.request, cert) {
                 old.try_cert(new, cert);
             }

@@ -96,18 +96,4 @@ impl<'a> Row<'a> {
         }
         best
     }
-
-    // The best reading of a whole right side: one symbol at once.
-    pub fn read_side(self, side: RightSide, from: usize, to: usize) -> u32
-        ensures { result ≡ reading (question_by self.entry.lens 0) (held self.entry.lens self.entry.table.now) from (symbols_of side.cert) to }
-    {
-        if side.symbols_in() == 1 {
-            return self.weight_at(Entry {
-                key: from,
-                symbol: side.symbol_at(0),
-                place: to,
-            });
-        }
-        self.read_from(side, 0, from, to)
-    }
 }

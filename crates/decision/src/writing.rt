@@ -63,9 +63,7 @@ impl<'a> LastSteps<'a> {
         requires { i < count_of self.inquiry.file.now }
         ensures { result ≡ brings self.entry.inquiry.file.now self.entry.inquiry.request self.entry.floor self.entry.table.now i entry.key entry.symbol entry.place }
     {
-        let Ok(cert) = wac::record_alone(self.inquiry.file, i) else {
-            return false;
-        };
+        let cert = self.inquiry.cert(i);
         let subject = cert.subject as usize;
         Lens::Steps(self.floor).is_live(self.inquiry.request, cert)
             && cert.issuer as usize == entry.key
@@ -84,7 +82,7 @@ impl<'a> LastSteps<'a> {
                 return i;
             }
         }
-        0
+        unreachable!()
     }
 
     // The lowest place to which symbol j goes in a best reading of a right side.
@@ -118,9 +116,7 @@ impl<'a> LastSteps<'a> {
             return at;
         }
         let i = self.find_cert(entry);
-        let Ok(cert) = wac::record_alone(self.inquiry.file, i) else {
-            return at;
-        };
+        let cert = self.inquiry.cert(i);
         chain[at] = i as u8;
         self.expand_subject(chain, at + 1, RightSide { cert }, entry.place)
     }

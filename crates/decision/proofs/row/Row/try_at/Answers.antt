@@ -13,14 +13,14 @@ pub joined-offer-requires : goal.joined-offer-requires
 joined-offer-requires c =
     let a = c.args in (
       rw c.weight.ensures (weight_fits a.self.lens a.cert c.requires.1),
-      rw c.read_side-read.ensures (reading_fits _ _ (fine a.self) _ _ _),
+      rw c.read_from-read.ensures (reading_fits _ _ (fine a.self) _ _ _),
     )
 
 pub returns : goal.returns
 returns c =
     let a = c.args in
     let at = c.number-e in
-    let read = c.read_side-read in
+    let read = c.read_from-read in
     let weight = c.weight in
     let offer = c.joined-offer in
     stored (weighing_of a.self.lens) a.new.now at.result (number a.cert.issuer a.cert.left a.place) c.better.result

@@ -1,33 +1,26 @@
 -- `expand_entry` and `expand_subject` meet their contracts: a certificate brings the entry about, and its subject's symbols are written in turn.
 use native.Mathlib.Omega.{arith}
 use lib.ListN.{length-set}
-use Rattle.decision.proofs.FetchLaws.{fetched_same, fetched_refused}
 use Rattle.decision.proofs.WritingLaws.{bringing_below, bringing_small, bringing_steps, entry_none, entry_own, part_none, part_more, part_all}
 use Rattle.decision.proofs.writing.LastSteps.+expand_entry_expand_subject.Goals as goal
 
 pub expand_entry-returns-then-steps_at-eq0 : goal.expand_entry-returns-then-steps_at-eq0
 expand_entry-returns-then-steps_at-eq0 t c = entry_none c.args.self c.args.entry c.steps_at.ensures c.if-steps_at-eq0.true
 
-pub expand_entry-returns-in_default : goal.expand_entry-returns-in_default
-expand_entry-returns-in_default t c =
-    absurd (fetched_refused c.record_alone.ensures c.args.self.inquiry.ready.accepted (bringing_below c.find_cert-i.ensures) c.in_default.is)
+pub expand_entry-cert-cert-requires : goal.expand_entry-cert-cert-requires
+expand_entry-cert-cert-requires t c = bringing_below c.find_cert-i.ensures
 
 pub expand_entry-expand_subject-requires : goal.expand_entry-expand_subject-requires
 expand_entry-expand_subject-requires t c =
     let pre = c.requires in
-    let bringing = c.find_cert-i.ensures in
-    let steps = bringing_steps bringing (fetched_same c.record_alone.ensures c.args.self.inquiry.ready.accepted (bringing_below bringing) c.in-Ok.is) in
+    let steps = bringing_steps c.find_cert-i.ensures c.cert-cert.ensures.same in
     (omega (arith, steps), (omega (arith, steps, pre.0), simp length-set (omega (arith, steps, pre.1))))
 
 pub expand_entry-overflow_cast-chain : goal.expand_entry-overflow_cast-chain
 expand_entry-overflow_cast-chain t c = omega (arith, bringing_small c.find_cert-i.ensures c.args.self.inquiry.ready.accepted)
 
 pub expand_entry-returns : goal.expand_entry-returns
-expand_entry-returns t c =
-    let accepted = c.args.self.inquiry.ready.accepted in
-    let bringing = c.find_cert-i.ensures in
-    let same = fetched_same c.record_alone.ensures accepted (bringing_below bringing) c.in-Ok.is in
-    entry_own bringing same c.expand_subject.ensures
+expand_entry-returns t c = entry_own c.find_cert-i.ensures c.cert-cert.ensures.same c.expand_subject.ensures
 
 pub expand_subject-loop-j-init : goal.expand_subject-loop-j-init
 expand_subject-loop-j-init t c = part_none

@@ -14,7 +14,7 @@ loop-i-init c = below_none _
 pub loop-i-preserved : goal.loop-i-preserved
 loop-i-preserved c = below_more _ _ c.loop-i.invariant (sym c.brings_by.ensures ∙ c.if-brings_by.false)
 
-pub returns : goal.returns
-returns c =
+pub unreachable-requires : goal.unreachable-requires
+unreachable-requires c =
     let a = c.args in
-    absurd (bringing_some a.self a.entry c.requires.0 c.requires.1 (λ i h. c.loop-i.invariant i (omega (arith, a.self.inquiry.ready.counted))))
+    bringing_some a.self a.entry c.requires.0 c.requires.1 (λ i h. c.loop-i.invariant i (omega (arith, a.self.inquiry.ready.counted)))
