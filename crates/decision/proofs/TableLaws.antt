@@ -63,14 +63,14 @@ is_entry_lem k s a e = rw (lt-ltb k keys e.0) (⊎_elim
 
 -- a symbol's entries arrive at its places, and at no others
 module _ (k s a : ℕ) where
-  pub arrives : is_entry k s a ≡ true → ((arrivals_of s).first ≤ a) × (a < (arrivals_of s).past)
+  pub arrives : is_entry k s a ≡ true → ((arrivals_of s).start ≤ a) × (a < (arrivals_of s).end)
   unfolding arrivals_of
   arrives t = ⊎_elim
       (λ n. rw (lt-ltb s identifiers n.0) (omega arith, n.1))
       (λ m. rw (le-ltb s identifiers (mark_low s m.0), m.1) (omega arith, omega arith))
       (entry_of_lem k s a t).1
 
-  pub arrives_back : k < keys → s ≤ access → (arrivals_of s).first ≤ a → a < (arrivals_of s).past → is_entry k s a ≡ true
+  pub arrives_back : k < keys → s ≤ access → (arrivals_of s).start ≤ a → a < (arrivals_of s).end → is_entry k s a ≡ true
   unfolding arrivals_of
   arrives_back h high = turn (ltb s identifiers) refl
     where

@@ -3,15 +3,15 @@ use Rattle.std.specs.Prelude.{◌≡◌, Bool, true, false, cond, ◌&&◌, List
 use Rattle.wac.specs.Limits.{keys, identifiers, delegate, access, end_place, named_entries, entries}
 use Rattle.wac.specs.File.{listed}
 use Rattle.rewriting.specs.Passes.{Table}
-use Rattle.decision.specs.declared.entries.Arrivals.{Arrivals}
+use Rattle.std.specs.declared.ops.Range.{Range}
 
 -- there is such an entry: a key reads an identifier and arrives at a key, or a mark and arrives at the end place
 unfoldable pub is_entry : ℕ → ℕ → ℕ → Bool
 is_entry k s a = ltb k keys && cond (ltb s identifiers) (ltb a keys) (leb s access && eqb a end_place)
 
 -- the places where a symbol's entries arrive: the keys for an identifier, the end place for a mark
-unfoldable pub arrivals_of : ℕ → Arrivals
-arrivals_of s = record { first = cond (ltb s identifiers) 0 end_place; past = cond (ltb s identifiers) keys (end_place + 1) }
+unfoldable pub arrivals_of : ℕ → Range ℕ
+arrivals_of s = record { start = cond (ltb s identifiers) 0 end_place; end = cond (ltb s identifiers) keys (end_place + 1) }
 
 -- the number of an entry: identifiers by (key × 10 + identifier) × 16 + arrival; then mark 10 by 2,560 + key; then mark 11 by 2,576 + key
 unfoldable pub number : ℕ → ℕ → ℕ → ℕ

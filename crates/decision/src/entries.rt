@@ -3,14 +3,8 @@ ghost use Rattle.std.specs.Prelude.{◌≡◌, true, ◌<◌};
 ghost use Rattle.wac.specs.Limits.{entries};
 ghost use Rattle.decision.specs.Table.{is_entry, arrivals_of, number, NumberOf};
 
+use std::ops::Range;
 use wac::Table;
-
-// Places from the first on, up to the one past the last.
-#[derive(Clone, Copy)]
-pub struct Arrivals {
-    pub first: usize,
-    pub past: usize,
-}
 
 // An entry: a key reads a symbol and arrives at a place.
 #[derive(Clone, Copy)]
@@ -22,19 +16,13 @@ pub struct Entry {
 
 // The places where a symbol's entries arrive.
 #[tactic(auto, unfolding(crate::specs::Table::arrivals_of))]
-pub fn arrivals_of(symbol: usize) -> Arrivals
+pub fn arrivals_of(symbol: usize) -> Range<usize>
     ensures { result ≡ arrivals_of symbol }
 {
     if symbol < Table::IDENTIFIERS {
-        Arrivals {
-            first: 0,
-            past: Table::KEYS,
-        }
+        0..Table::KEYS
     } else {
-        Arrivals {
-            first: Table::END,
-            past: Table::END + 1,
-        }
+        Table::END..Table::END + 1
     }
 }
 

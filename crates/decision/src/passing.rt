@@ -37,8 +37,7 @@ impl<'a> Row<'a> {
         requires { Within self.lens new.old × Lawful cert }
         ensures { Tried self.entry.lens self.entry.table.now cert new.old new.new }
     {
-        let places = entries::arrivals_of(cert.left as usize);
-        for place in places.first..places.past {
+        for place in entries::arrivals_of(cert.left as usize) {
             self.try_at(new, cert, place);
         }
     }

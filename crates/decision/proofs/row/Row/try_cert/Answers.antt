@@ -1,38 +1,42 @@
-use mathlib.Core.Path.{ap}
-use native.Mathlib.Omega.{arith}
-use Rattle.decision.proofs.PassingLaws.{left_symbol, trying_none, trying_skip, trying_more, tried_all}
+use Rattle.std.proofs.Common.{◌≡◌, ◌∙◌, sym, ap, subst, true, arith}
+use Rattle.decision.proofs.PassingLaws.{Trying, left_symbol, trying_none, trying_skip, trying_more, tried_all}
 use Rattle.decision.proofs.TableLaws.{arrives, arrives_back}
 use Rattle.decision.proofs.row.Row.try_cert.Goals as goal
 
 pub loop-place-init : goal.loop-place-init
 loop-place-init c =
     let a = c.args in
-    let places = c.arrivals_of-places.ensures in
-    let none = trying_none a.self.lens a.self.table.now a.cert a.new.now c.requires.0 in (
-      ap (λ p. p.past) places,
-      omega (arith, ap (λ p. p.first) places),
-      trying_skip none _ (omega arith) (λ x h t. absurd (omega (arith, ap (λ p. p.first) places, (arrives _ _ x t).0))),
-    )
+    let same = c.into_iter-place-iterator.ensures.into_iter_gives ∙ c.arrivals_of-place-items.ensures in
+    let begins = ap (λ r. r.start) same in
+    let none = trying_none a.self.lens a.self.table.now a.cert a.new.now c.requires.0 in
+    record {
+      ends = ap (λ r. r.end) same;
+      begins = omega (arith, begins);
+      tried = trying_skip none _ (omega arith) (λ x h t. absurd (omega (arith, begins, (arrives _ _ x t).0)));
+    }
 
 pub try_at-requires : goal.try_at-requires
 try_at-requires c =
-    let p = c.requires in
+    let ok = c.requires.1 in
     let i = c.loop-place.invariant in
-    (i.2.within, p.1, arrives_back _ _ _ p.1.issuer (left_symbol _ p.1) i.1 (omega (arith, c.loop-place-test.true, i.0)))
+    let next = c.in-Some.ensures.steps.1 in
+    (i.tried.within, ok, arrives_back _ _ _ ok.issuer (left_symbol _ ok) (omega (arith, i.begins, next)) (omega (arith, i.ends, next)))
 
 pub loop-place-preserved : goal.loop-place-preserved
 loop-place-preserved c =
     let a = c.args in
-    let p = c.requires in
-    let h = c.loop-place in
-    let i = h.invariant in
-    let here = arrives_back a.cert.issuer a.cert.left h.place p.1.issuer (left_symbol a.cert p.1) i.1 (omega arith) in
-    (i.0, omega arith, trying_more i.2 a.self.within p.1 here c.try_at.ensures)
-
-pub shape_of-new : goal.shape_of-new
-shape_of-new c = c.loop-place.invariant.2.long
+    let ok = c.requires.1 in
+    let i = c.loop-place.invariant in
+    let steps = c.in-Some.ensures.steps in
+    let here = arrives_back a.cert.issuer a.cert.left c.in-Some.place ok.issuer (left_symbol _ ok) (omega (arith, i.begins, steps.1)) (omega (arith, i.ends, steps.1)) in
+    let Until = Trying a.self.lens a.self.table.now a.cert a.new.now in
+    record {
+      ends = steps.0 ∙ i.ends;
+      begins = omega (arith, i.begins, steps.1);
+      tried = subst (Until c.try_at.new.new) (omega (arith, steps.1)) (trying_more (subst (Until c.loop-place.new) (sym steps.1.1) i.tried) a.self.within ok here c.try_at.ensures);
+    }
 
 pub returns : goal.returns
 returns c =
     let i = c.loop-place.invariant in
-    tried_all i.2 (λ x t. omega (arith, i.0, c.loop-place-test.false, (arrives _ _ x t).1))
+    tried_all i.tried (λ x t. omega (arith, i.ends, c.in-None.ensures.steps.1, (arrives _ _ x t).1))

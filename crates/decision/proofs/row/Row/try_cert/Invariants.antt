@@ -1,4 +1,4 @@
--- `try_cert` meets its contract. The loop's invariant: the certificate is tried at its entries that arrive below `place`. The measure is what is left.
+-- `try_cert` meets its contract. The loop's invariant: the certificate is tried at its entries that arrive below what is left of the range.
 use Prim.Native.Nat.{◌≤◌}
 use mathlib.Core.Path.{◌≡◌}
 use Rattle.decision.specs.Table.{arrivals_of}
@@ -6,4 +6,8 @@ use Rattle.decision.proofs.PassingLaws.{Trying}
 use Rattle.decision.proofs.row.Row.try_cert.Given as goal
 
 abbrev pub invariant-loop-place : goal.invariant-loop-place
-invariant-loop-place l = (l.place-end ≡ (arrivals_of l.cert.left).past) × ((arrivals_of l.cert.left).first ≤ l.place) × Trying l.self.lens l.self.table.now l.cert l.initial.new l.new l.place
+invariant-loop-place l = record {
+  ends : l.place-iterator.end ≡ (arrivals_of l.cert.left).end;
+  begins : (arrivals_of l.cert.left).start ≤ l.place-iterator.start;
+  tried : Trying l.self.lens l.self.table.now l.cert l.initial.new l.new l.place-iterator.start;
+}
