@@ -93,8 +93,8 @@ pub struct Showing {
     pub granted: bool,
 }
 
-// The minutes at the start: without end at the asker's two marks, none elsewhere. `decision` keeps its own start, over
-// a lent list and by a lens, to itself.
+// The minutes at the start: without end at the asker's two marks, none elsewhere. The start over a lent list that
+// `decision` has asks its caller for a key below 16, and no public function asks anything.
 fn start_minutes(asker: usize) -> [u32; Table::ENTRIES]
     requires { asker < keys }
     ensures { result ≡ start_of asker }
