@@ -1,4 +1,4 @@
--- Laws about text: pieces written one after the other, and decimals.
+-- Laws about text: decimals, numbers as fields, and a piece copied to lent bytes.
 use mathlib.Core.Path.{◌≡◌, refl, ap, ◌∙◌}
 use mathlib.Core.Logic.{by_cases}
 use mathlib.Core.List.{List, [], ◌∷◌, ◌++◌, map, append_assoc, append-nil}

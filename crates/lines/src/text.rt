@@ -42,12 +42,13 @@ pub(crate) struct Text {
 
 impl Model for Text {
     ghost use Rattle.std.specs.Prelude.{List, ℕ, ◌≤◌, take};
+    ghost use Rattle.lines.specs.Question.{line_room};
 
     ghost Value = { List ℕ };
 
     ghost view = { λ text. take text.count text.bytes };
 
-    ghost invariant = { λ text. text.count ≤ 1024 };
+    ghost invariant = { λ text. text.count ≤ line_room };
 }
 
 impl Text {
