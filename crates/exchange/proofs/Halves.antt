@@ -1,6 +1,5 @@
 -- The program's own exchange is one of the theorem's: what it sends in turn gives every entry its turn.
 use mathlib.Core.Path.{◌≡◌, refl, sym, ap, subst, ◌∙◌}
-use mathlib.Core.Bool.{true, false, true≢false}
 use mathlib.Core.List.{List}
 use Prim.Native.Nat.{ℕ, ◌+◌, ◌≤◌}
 use native.Mathlib.Omega.{arith}
@@ -21,8 +20,8 @@ use Rattle.sites.specs.declared.site.Site.{Site}
 use Rattle.sites.specs.declared.site.NoteRefused.{NoteRefused}
 use Rattle.sites.proofs.Running.{reached_on, reached_swap, half_steps}
 use Rattle.sites.proofs.Turning.{Turned, turned_work, turned_reached, turned_nothing, turned_half, next_raised, turned_note, Delivered, delivered}
-use Rattle.exchange.specs.Mail.{blank, Keeps}
-use Rattle.exchange.specs.Acts.{swapped_desk, is_raise, Worked, KeepsReceipt, Returned, Exchanged, SentNext, At, HalfDone, FullDone}
+use Rattle.exchange.specs.Mail.{blank}
+use Rattle.exchange.specs.Acts.{swapped_desk, Worked, Returned, Exchanged, SentNext, At, HalfDone, FullDone}
 use Rattle.exchange.specs.declared.desk.Desk.{Desk}
 use Rattle.exchange.specs.declared.desk.Done.{Done}
 use Rattle.exchange.specs.declared.desk.Sent.{Sent}
@@ -114,28 +113,3 @@ halves_full d d' d'' there back f g q session x reached at =
     let (y, middle, half) = there f g q session x reached at in
     let (z, end, other) = back g f q session (swapped y) (reached_swap (reached_on reached (half_steps half))) (record { a = middle.b; b = middle.a }) in
     (swapped z, record { a = end.b; b = end.a }, record { middle = y; there = half; back = other })
-
--- The receipt of a raise comes back,
-pub returned_raise : {receipt bytes : List ℕ} {x x' : Site} {answer : Result NoteKind NoteRefused} (t : Result NoteKind NoteRefused) → is_raise t ≡ true →
-    Takes x receipt blank (record { answer = answer; site = x' }) bytes → Returned t receipt x x'
-returned_raise {bytes = bytes} {answer = answer} (Ok Raise) e takes = (answer, bytes, takes)
-returned_raise (Ok Receipt) e takes = absurd (true≢false (sym e))
-returned_raise (Err why) e takes = absurd (true≢false (sym e))
-
--- and without a receipt the site stays.
-pub returned_none : (receipt : List ℕ) (x : Site) (t : Result NoteKind NoteRefused) → is_raise t ≡ false → Returned t receipt x x
-returned_none receipt x (Ok Raise) e = absurd (true≢false e)
-returned_none receipt x (Ok Receipt) e = refl
-returned_none receipt x (Err why) e = refl
-
--- So it is with what is kept.
-pub keeps_raise : {notes receipt notes' : List ℕ} {count count' : ℕ} (t : Result NoteKind NoteRefused) → is_raise t ≡ true → Keeps notes count receipt count' notes' →
-    KeepsReceipt t notes count receipt count' notes'
-keeps_raise (Ok Raise) e keeps = keeps
-keeps_raise (Ok Receipt) e keeps = absurd (true≢false (sym e))
-keeps_raise (Err why) e keeps = absurd (true≢false (sym e))
-
-pub keeps_no_receipt : (notes receipt : List ℕ) (count : ℕ) (t : Result NoteKind NoteRefused) → is_raise t ≡ false → KeepsReceipt t notes count receipt count notes
-keeps_no_receipt notes receipt count (Ok Raise) e = absurd (true≢false e)
-keeps_no_receipt notes receipt count (Ok Receipt) e = (refl, refl)
-keeps_no_receipt notes receipt count (Err why) e = (refl, refl)

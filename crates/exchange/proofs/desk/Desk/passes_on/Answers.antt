@@ -15,9 +15,6 @@ or_blank : (b : Bool) (note : List ℕ) → unwrap_or (cond b (Some note) None) 
 or_blank true note = refl
 or_blank false note = refl
 
-pub returns-then-count-eq0 : goal.returns-then-count-eq0
-returns-then-count-eq0 c = PassedOn.nothing (omega arith) refl refl refl
-
 pub returns : goal.returns
 returns c =
     let args = c.args in
