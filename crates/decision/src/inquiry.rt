@@ -20,9 +20,9 @@ pub struct Inquiry<'a> {
 
 impl<'a> Inquiry<'a> {
     // Certificate i of the file.
-    pub fn cert(self, i: usize) -> Cert
-        requires { i < count_of self.file.now }
-        ensures same { result ≡ cert_at self.entry.file.now i }
+    pub fn cert(&self, i: usize) -> Cert
+        requires { i < count_of self.now.file.now }
+        ensures same { result ≡ cert_at self.now.file.now i }
         ensures lawful { Lawful result }
     {
         match wac::record_alone(self.file, i) {

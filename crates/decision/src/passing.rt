@@ -16,29 +16,31 @@ use crate::row::Row;
 use wac::{Cert, Table};
 
 impl<'a> Row<'a> {
-    // Tries a certificate at the entry that arrives at one place.
-    fn try_at(self, new: &mut [u32], cert: Cert, place: usize)
-        requires { Within self.lens new.old × Lawful cert × (is_entry cert.issuer cert.left place ≡ true) }
-        ensures { new.new ≡ slice_set new.old (number cert.issuer cert.left place) ((weighing_of self.entry.lens).best (get_or new.old (number cert.issuer cert.left place) 0) (offered self.entry.lens self.entry.table.now cert place)) }
+    // Tries a certificate, of which this is the right side, at the entry that arrives at one place.
+    fn try_at(&self, new: &mut [u32], side: &RightSide, place: usize)
+        requires { Within self.now.lens new.old × Lawful side.now.cert × (is_entry side.now.cert.issuer side.now.cert.left place ≡ true) }
+        ensures { new.new ≡ slice_set new.old (number side.now.cert.issuer side.now.cert.left place) ((weighing_of self.now.lens).best (get_or new.old (number side.now.cert.issuer side.now.cert.left place) 0) (offered self.now.lens self.now.table.now side.now.cert place)) }
     {
+        let cert = side.cert;
         let entry = Entry {
             key: cert.issuer as usize,
             symbol: cert.left as usize,
             place,
         };
         let e = entry.number();
-        let read = self.read_from(RightSide { cert }, 0, cert.subject as usize, place);
+        let read = self.read_side(side, cert.subject as usize, place);
         let offer = self.lens.joined(self.lens.weight(cert), read);
         new[e] = self.lens.better(new[e], offer);
     }
 
     // Tries a certificate at every entry that it can bring about.
-    fn try_cert(self, new: &mut [u32], cert: Cert)
-        requires { Within self.lens new.old × Lawful cert }
-        ensures { Tried self.entry.lens self.entry.table.now cert new.old new.new }
+    fn try_cert(&self, new: &mut [u32], cert: Cert)
+        requires { Within self.now.lens new.old × Lawful cert }
+        ensures { Tried self.now.lens self.now.table.now cert new.old new.new }
     {
+        let side = RightSide { cert };
         for place in entries::arrivals_of(cert.left as usize) {
-            self.try_at(new, cert, place);
+            self.try_at(new, &side, place);
         }
     }
 }
@@ -54,9 +56,9 @@ pub fn fill(table: &mut [u32], weight: u32)
 
 impl<'a> Inquiry<'a> {
     // The table at the start: the asker's two mark entries have the whole, the others none.
-    pub fn start_by(self, lens: Lens, table: &mut [u32])
+    pub fn start_by(&self, lens: Lens, table: &mut [u32])
         requires { entries ≤ length table.old }
-        ensures { (take entries table.new ≡ row_of (start (question_by lens self.entry.request.asker))) × (drop entries table.new ≡ drop entries table.old) }
+        ensures { (take entries table.new ≡ row_of (start (question_by lens self.now.request.asker))) × (drop entries table.new ≡ drop entries table.old) }
     {
         fill(table, lens.none());
         let whole = lens.whole();
@@ -74,9 +76,9 @@ impl<'a> Inquiry<'a> {
     }
 
     // One pass: the new table begins as the old one, and every certificate that counts is tried.
-    fn pass_over(self, old: Row<'_>, new: &mut [u32])
-        requires { (length old.table.now ≡ entries) × Within old.lens new.old × (take entries new.old ≡ old.table.now) }
-        ensures { Passed old.entry.lens self.entry.file.now self.entry.request old.entry.table.now new.old new.new }
+    fn pass_over(&self, old: &Row<'_>, new: &mut [u32])
+        requires { (length old.now.table.now ≡ entries) × Within old.now.lens new.old × (take entries new.old ≡ old.now.table.now) }
+        ensures { Passed old.now.lens self.now.file.now self.now.request old.now.table.now new.old new.new }
     {
         for i in 0..self.count {
             let cert = self.cert(i);
@@ -86,16 +88,16 @@ impl<'a> Inquiry<'a> {
         }
     }
 
-    // Passes until one changes nothing: the number of passes.
-    pub fn settle_by(self, lens: Lens, table: &mut [u32]) -> u64
+    // Passes until one changes nothing: the number of passes. No range says how many there will be.
+    pub fn settle_by(&self, lens: Lens, table: &mut [u32]) -> u64
         requires { Within lens table.old }
-        ensures { SettledFrom lens self.entry.file.now self.entry.request table.old result table.new }
+        ensures { SettledFrom lens self.now.file.now self.now.request table.old result table.new }
     {
         let mut old = [0u32; Table::ENTRIES];
         let mut passes: u64 = 0;
         loop {
             old.copy_from_slice(&table[..Table::ENTRIES]);
-            self.pass_over(Row { lens, table: &old }, table);
+            self.pass_over(&Row { lens, table: &old }, table);
             passes += 1;
             if old[..] == table[..Table::ENTRIES] {
                 return passes;

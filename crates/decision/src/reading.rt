@@ -21,8 +21,8 @@ pub struct RightSide {
 impl RightSide {
     // How many symbols it has.
     #[tactic(auto, using(crate::proofs::ReadingLaws::symbols_unmarked, crate::proofs::ReadingLaws::symbols_marked))]
-    pub fn symbols_in(self) -> usize
-        ensures { (result ≡ length (symbols_of self.cert)) × (result ≤ 4) }
+    pub fn symbols_in(&self) -> usize
+        ensures { (result ≡ length (symbols_of self.now.cert)) × (result ≤ 4) }
     {
         if self.cert.mark as usize == Table::UNUSED {
             self.cert.count as usize
@@ -33,9 +33,9 @@ impl RightSide {
 
     // Symbol j.
     #[tactic(auto, using(crate::proofs::ReadingLaws::symbol_mark, crate::proofs::ReadingLaws::symbol_id))]
-    pub fn symbol_at(self, j: usize) -> usize
-        requires { j < length (symbols_of self.cert) }
-        ensures { result ≡ get_or (symbols_of self.cert) j 0 }
+    pub fn symbol_at(&self, j: usize) -> usize
+        requires { j < length (symbols_of self.now.cert) }
+        ensures { result ≡ get_or (symbols_of self.now.cert) j 0 }
     {
         if self.cert.count as usize <= j {
             return self.cert.mark as usize;
@@ -52,9 +52,9 @@ impl<'a> Row<'a> {
     // The best reading of the symbols from j on, from one place to another: none and one at once, more
     // by a search.
     #[cycle(read_from_search_from)]
-    pub fn read_from(self, side: RightSide, j: usize, from: usize, to: usize) -> u32
-        requires { j ≤ length (symbols_of side.cert) }
-        ensures { result ≡ reading (question_by self.entry.lens 0) (held self.entry.lens self.entry.table.now) from (drop j (symbols_of side.cert)) to }
+    pub fn read_from(&self, side: &RightSide, j: usize, from: usize, to: usize) -> u32
+        requires { j ≤ length (symbols_of side.now.cert) }
+        ensures { result ≡ reading (question_by self.now.lens 0) (held self.now.lens self.now.table.now) from (drop j (symbols_of side.now.cert)) to }
     {
         let symbols = side.symbols_in();
         if symbols <= j {
@@ -76,9 +76,9 @@ impl<'a> Row<'a> {
     // The best reading of two symbols or more, from j on: a search over the places to which symbol j
     // goes.
     #[cycle(read_from_search_from)]
-    fn search_from(self, side: RightSide, j: usize, from: usize, to: usize) -> u32
-        requires { j + 1 < length (symbols_of side.cert) }
-        ensures { result ≡ reading (question_by self.entry.lens 0) (held self.entry.lens self.entry.table.now) from (drop j (symbols_of side.cert)) to }
+    fn search_from(&self, side: &RightSide, j: usize, from: usize, to: usize) -> u32
+        requires { j + 1 < length (symbols_of side.now.cert) }
+        ensures { result ≡ reading (question_by self.now.lens 0) (held self.now.lens self.now.table.now) from (drop j (symbols_of side.now.cert)) to }
     {
         let symbol = side.symbol_at(j);
         let none = self.lens.none();
@@ -95,5 +95,20 @@ impl<'a> Row<'a> {
             }
         }
         best
+    }
+
+    // The best reading of a whole right side: one symbol at once. It is apart from `read_from` for speed:
+    // most right sides have one symbol, and are then read with no call.
+    pub fn read_side(&self, side: &RightSide, from: usize, to: usize) -> u32
+        ensures { result ≡ reading (question_by self.now.lens 0) (held self.now.lens self.now.table.now) from (symbols_of side.now.cert) to }
+    {
+        if side.symbols_in() == 1 {
+            return self.weight_at(Entry {
+                key: from,
+                symbol: side.symbol_at(0),
+                place: to,
+            });
+        }
+        self.read_from(side, 0, from, to)
     }
 }

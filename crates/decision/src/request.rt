@@ -13,7 +13,8 @@ pub struct Request {
     pub at: u32,
 }
 
-// Are all of the rights asked among those held?
+// Are all of the rights asked among those held? `includes` reads the four rights alone, where
+// `held & asked == asked` would read all eight bits.
 #[tactic(auto, unfolding(crate::specs::Usable::includes))]
 fn all_held(held: u8, asked: u8) -> bool
     ensures { result ≡ includes held asked }

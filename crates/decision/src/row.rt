@@ -17,8 +17,8 @@ pub struct Row<'a> {
 impl<'a> Row<'a> {
     // The weight of an entry, and none where there is no such entry.
     #[tactic(auto, unfolding(crate::specs::Table::table_of))]
-    pub fn weight_at(self, entry: Entry) -> u32
-        ensures { result ≡ held self.entry.lens self.entry.table.now entry.key entry.symbol entry.place }
+    pub fn weight_at(&self, entry: Entry) -> u32
+        ensures { result ≡ held self.now.lens self.now.table.now entry.key entry.symbol entry.place }
     {
         match entries::entry_number(entry) {
             Some(number) => self.table[number],

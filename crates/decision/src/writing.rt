@@ -36,8 +36,8 @@ pub struct LastSteps<'a> {
 
 impl<'a> LastSteps<'a> {
     // The steps of an entry.
-    pub fn steps_at(self, entry: Entry) -> u32
-        ensures { result ≡ steps_at self.entry.floor self.entry.table.now entry.key entry.symbol entry.place }
+    pub fn steps_at(&self, entry: Entry) -> u32
+        ensures { result ≡ steps_at self.now.floor self.now.table.now entry.key entry.symbol entry.place }
     {
         let row = Row {
             lens: Lens::Steps(self.floor),
@@ -47,9 +47,9 @@ impl<'a> LastSteps<'a> {
     }
 
     // The fewest steps in which the symbols from j on are read from one place to another.
-    fn steps_read(self, side: RightSide, j: usize, from: usize, to: usize) -> u32
-        requires { j ≤ length (symbols_of side.cert) }
-        ensures { result ≡ steps_read self.entry.floor self.entry.table.now side.cert j from to }
+    fn steps_read(&self, side: &RightSide, j: usize, from: usize, to: usize) -> u32
+        requires { j ≤ length (symbols_of side.now.cert) }
+        ensures { result ≡ steps_read self.now.floor self.now.table.now side.now.cert j from to }
     {
         let row = Row {
             lens: Lens::Steps(self.floor),
@@ -59,23 +59,23 @@ impl<'a> LastSteps<'a> {
     }
 
     // Does certificate i bring the entry about by one step more than its subject reads?
-    fn brings_by(self, i: usize, entry: Entry) -> bool
-        requires { i < count_of self.inquiry.file.now }
-        ensures { result ≡ brings self.entry.inquiry.file.now self.entry.inquiry.request self.entry.floor self.entry.table.now i entry.key entry.symbol entry.place }
+    fn brings_by(&self, i: usize, entry: Entry) -> bool
+        requires { i < count_of self.now.inquiry.file.now }
+        ensures { result ≡ brings self.now.inquiry.file.now self.now.inquiry.request self.now.floor self.now.table.now i entry.key entry.symbol entry.place }
     {
         let cert = self.inquiry.cert(i);
         let subject = cert.subject as usize;
         Lens::Steps(self.floor).is_live(self.inquiry.request, cert)
             && cert.issuer as usize == entry.key
             && cert.left as usize == entry.symbol
-            && self.steps_read(RightSide { cert }, 0, subject, entry.place) + 1
+            && self.steps_read(&RightSide { cert }, 0, subject, entry.place) + 1
                 == self.steps_at(entry)
     }
 
     // The lowest certificate that brings an entry about by its steps.
-    fn find_cert(self, entry: Entry) -> usize
-        requires { (steps_at self.floor self.table.now entry.key entry.symbol entry.place ≤ chain_places) × (steps_at self.floor self.table.now entry.key entry.symbol entry.place ≡ 0 → ⊥) }
-        ensures { Bringing self.entry.inquiry.file.now self.entry.inquiry.request self.entry.floor self.entry.table.now entry.key entry.symbol entry.place result }
+    fn find_cert(&self, entry: Entry) -> usize
+        requires { (steps_at self.now.floor self.now.table.now entry.key entry.symbol entry.place ≤ chain_places) × (steps_at self.now.floor self.now.table.now entry.key entry.symbol entry.place ≡ 0 → ⊥) }
+        ensures { Bringing self.now.inquiry.file.now self.now.inquiry.request self.now.floor self.now.table.now entry.key entry.symbol entry.place result }
     {
         for i in 0..self.inquiry.count {
             if self.brings_by(i, entry) {
@@ -86,9 +86,9 @@ impl<'a> LastSteps<'a> {
     }
 
     // The lowest place to which symbol j goes in a best reading of a right side.
-    fn find_place(self, side: RightSide, j: usize, from: usize, to: usize) -> usize
-        requires { (j < length (symbols_of side.cert)) × (steps_read self.floor self.table.now side.cert j from to ≤ chain_places) }
-        ensures { (result ≤ end_place) × (steps_read self.entry.floor self.entry.table.now side.cert j from to ≡ steps_at self.entry.floor self.entry.table.now from (slice_index (symbols_of side.cert) j) result + steps_read self.entry.floor self.entry.table.now side.cert (j + 1) result to) }
+    fn find_place(&self, side: &RightSide, j: usize, from: usize, to: usize) -> usize
+        requires { (j < length (symbols_of side.now.cert)) × (steps_read self.now.floor self.now.table.now side.now.cert j from to ≤ chain_places) }
+        ensures { (result ≤ end_place) × (steps_read self.now.floor self.now.table.now side.now.cert j from to ≡ steps_at self.now.floor self.now.table.now from (slice_index (symbols_of side.now.cert) j) result + steps_read self.now.floor self.now.table.now side.now.cert (j + 1) result to) }
     {
         let symbol = side.symbol_at(j);
         let whole = self.steps_read(side, j, from, to);
@@ -108,9 +108,9 @@ impl<'a> LastSteps<'a> {
 
     // Writes an entry from `at` on, and gives the next place.
     #[cycle(expand_entry_expand_subject)]
-    pub fn expand_entry(self, chain: &mut [u8], at: usize, entry: Entry) -> usize
-        requires { (steps_at self.floor self.table.now entry.key entry.symbol entry.place ≤ chain_places) × (at + steps_at self.floor self.table.now entry.key entry.symbol entry.place ≤ length chain.old) }
-        ensures { Wrote (Entered self.entry.inquiry.file.now self.entry.inquiry.request self.entry.floor entry.key entry.symbol entry.place) at (steps_at self.entry.floor self.entry.table.now entry.key entry.symbol entry.place) chain.old chain.new result }
+    pub fn expand_entry(&self, chain: &mut [u8], at: usize, entry: Entry) -> usize
+        requires { (steps_at self.now.floor self.now.table.now entry.key entry.symbol entry.place ≤ chain_places) × (at + steps_at self.now.floor self.now.table.now entry.key entry.symbol entry.place ≤ length chain.old) }
+        ensures { Wrote (Entered self.now.inquiry.file.now self.now.inquiry.request self.now.floor entry.key entry.symbol entry.place) at (steps_at self.now.floor self.now.table.now entry.key entry.symbol entry.place) chain.old chain.new result }
     {
         if self.steps_at(entry) == 0 {
             return at;
@@ -118,14 +118,14 @@ impl<'a> LastSteps<'a> {
         let i = self.find_cert(entry);
         let cert = self.inquiry.cert(i);
         chain[at] = i as u8;
-        self.expand_subject(chain, at + 1, RightSide { cert }, entry.place)
+        self.expand_subject(chain, at + 1, &RightSide { cert }, entry.place)
     }
 
     // Writes the entries that a certificate's subject reads, from `at` on, and gives the next place.
     #[cycle(expand_entry_expand_subject)]
-    fn expand_subject(self, chain: &mut [u8], at: usize, side: RightSide, to: usize) -> usize
-        requires { (steps_read self.floor self.table.now side.cert 0 side.cert.subject to ≤ chain_places) × (at + steps_read self.floor self.table.now side.cert 0 side.cert.subject to ≤ length chain.old) }
-        ensures { Wrote (ReadBy self.entry.inquiry.file.now self.entry.inquiry.request self.entry.floor side.cert to) at (steps_read self.entry.floor self.entry.table.now side.cert 0 side.cert.subject to) chain.old chain.new result }
+    fn expand_subject(&self, chain: &mut [u8], at: usize, side: &RightSide, to: usize) -> usize
+        requires { (steps_read self.now.floor self.now.table.now side.now.cert 0 side.now.cert.subject to ≤ chain_places) × (at + steps_read self.now.floor self.now.table.now side.now.cert 0 side.now.cert.subject to ≤ length chain.old) }
+        ensures { Wrote (ReadBy self.now.inquiry.file.now self.now.inquiry.request self.now.floor side.now.cert to) at (steps_read self.now.floor self.now.table.now side.now.cert 0 side.now.cert.subject to) chain.old chain.new result }
     {
         let mut next = at;
         let mut from = side.cert.subject as usize;

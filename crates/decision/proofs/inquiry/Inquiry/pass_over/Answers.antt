@@ -7,7 +7,7 @@ pub loop-i-init : goal.loop-i-init
 loop-i-init c = let p = c.requires in passing_none _ _ _ _ _ p.1 p.2
 
 pub cert-cert-requires : goal.cert-cert-requires
-cert-cert-requires c = omega (arith, c.args.self.ready.counted)
+cert-cert-requires c = omega (arith, c.args.self.now.ready.counted)
 
 pub try_cert-requires : goal.try_cert-requires
 try_cert-requires c = (c.loop-i.invariant.within, c.cert-cert.ensures.lawful)
@@ -17,14 +17,14 @@ loop-i-preserved c =
     let a = c.args in
     let h = c.loop-i in
     let cert = c.cert-cert.ensures in
-    let Next = λ (l : List ℕ). Passing a.old.lens a.self.file.now a.self.request a.old.table.now a.new.now l (h.i + 1) in
+    let Next = λ (l : List ℕ). Passing a.old.now.lens a.self.now.file.now a.self.now.request a.old.now.table.now a.new.now l (h.i + 1) in
     elim c.if-is_live.branch [
       | then-is_live w ↦
           subst Next (sym w.new-is)
-          (passing_live h.invariant cert.same (sym c.is_live.ensures ∙ w.if-is_live.true) a.old.within cert.lawful w.try_cert.ensures)
+          (passing_live h.invariant cert.same (sym c.is_live.ensures ∙ w.if-is_live.true) a.old.now.within cert.lawful w.try_cert.ensures)
       | else-is_live w ↦
           subst Next (sym w.new-is) (passing_dead h.invariant cert.same (sym c.is_live.ensures ∙ w.if-is_live.false))
     ]
 
 pub returns : goal.returns
-returns c = passed c.loop-i.invariant (omega (arith, c.args.self.ready.counted))
+returns c = passed c.loop-i.invariant (omega (arith, c.args.self.now.ready.counted))

@@ -12,7 +12,7 @@ use Rattle.decision.proofs.inquiry.Inquiry.settle_by.Goals.{Else-eq}
 pub loop-lens-init : goal.loop-lens-init
 loop-lens-init c =
     let a = c.args in
-    going_none _ _ _ _ (inquiry_lawful a.self a.lens) c.requires
+    going_none _ _ _ _ (inquiry_lawful a.self.now a.lens) c.requires
 
 pub invariant_of-pass_over : goal.invariant_of-pass_over
 invariant_of-pass_over c =

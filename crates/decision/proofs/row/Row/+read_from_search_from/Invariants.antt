@@ -10,10 +10,10 @@ use Rattle.decision.proofs.ReadingLaws.{up_to, through}
 use Rattle.decision.proofs.row.Row.+read_from_search_from.Given as goal
 
 abbrev pub decreases-read_from : goal.decreases-read_from
-decreases-read_from l = 2 * (length (symbols_of l.side.cert) - l.j) + 1
+decreases-read_from l = 2 * (length (symbols_of l.side.now.cert) - l.j) + 1
 
 abbrev pub decreases-search_from : goal.decreases-search_from
-decreases-search_from l = 2 * (length (symbols_of l.side.cert) - l.j)
+decreases-search_from l = 2 * (length (symbols_of l.side.now.cert) - l.j)
 
 abbrev pub invariant-search_from-loop-place : goal.invariant-search_from-loop-place
 invariant-search_from-loop-place l =

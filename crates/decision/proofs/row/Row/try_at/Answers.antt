@@ -12,18 +12,18 @@ use Rattle.decision.proofs.row.Row.try_at.Goals as goal
 pub joined-offer-requires : goal.joined-offer-requires
 joined-offer-requires c =
     let a = c.args in (
-      rw c.weight.ensures (weight_fits a.self.lens a.cert c.requires.1),
-      rw c.read_from-read.ensures (reading_fits _ _ (fine a.self) _ _ _),
+      rw c.weight.ensures (weight_fits a.self.now.lens a.side.now.cert c.requires.1),
+      rw c.read_side-read.ensures (reading_fits _ _ (fine a.self.now) _ _ _),
     )
 
 pub returns : goal.returns
 returns c =
     let a = c.args in
     let at = c.number-e in
-    let read = c.read_from-read in
+    let read = c.read_side-read in
     let weight = c.weight in
     let offer = c.joined-offer in
-    stored (weighing_of a.self.lens) a.new.now at.result (number a.cert.issuer a.cert.left a.place) c.better.result
-    weight.result (weight_by a.self.lens a.cert)
-    read.result (reading (question_by a.self.lens 0) (held a.self.lens a.self.table.now) a.cert.subject (symbols_of a.cert) a.place)
+    stored (weighing_of a.self.now.lens) a.new.now at.result (number a.side.now.cert.issuer a.side.now.cert.left a.place) c.better.result
+    weight.result (weight_by a.self.now.lens a.side.now.cert)
+    read.result (reading (question_by a.self.now.lens 0) (held a.self.now.lens a.self.now.table.now) a.side.now.cert.subject (symbols_of a.side.now.cert) a.place)
     offer.result at.ensures.0 weight.ensures read.ensures offer.ensures c.better.ensures

@@ -8,7 +8,7 @@ loop-place-init c =
     let a = c.args in
     let same = c.into_iter-place-iterator.ensures.into_iter_gives ∙ c.arrivals_of-place-items.ensures in
     let begins = ap (λ r. r.start) same in
-    let none = trying_none a.self.lens a.self.table.now a.cert a.new.now c.requires.0 in
+    let none = trying_none a.self.now.lens a.self.now.table.now a.cert a.new.now c.requires.0 in
     record {
       ends = ap (λ r. r.end) same;
       begins = omega (arith, begins);
@@ -29,11 +29,11 @@ loop-place-preserved c =
     let i = c.loop-place.invariant in
     let steps = c.in-Some.ensures.steps in
     let here = arrives_back a.cert.issuer a.cert.left c.in-Some.place ok.issuer (left_symbol _ ok) (omega (arith, i.begins, steps.1)) (omega (arith, i.ends, steps.1)) in
-    let Until = Trying a.self.lens a.self.table.now a.cert a.new.now in
+    let Until = Trying a.self.now.lens a.self.now.table.now a.cert a.new.now in
     record {
       ends = steps.0 ∙ i.ends;
       begins = omega (arith, i.begins, steps.1);
-      tried = subst (Until c.try_at.new.new) (omega (arith, steps.1)) (trying_more (subst (Until c.loop-place.new) (sym steps.1.1) i.tried) a.self.within ok here c.try_at.ensures);
+      tried = subst (Until c.try_at.new.new) (omega (arith, steps.1)) (trying_more (subst (Until c.loop-place.new) (sym steps.1.1) i.tried) a.self.now.within ok here c.try_at.ensures);
     }
 
 pub returns : goal.returns

@@ -7,7 +7,7 @@ use Rattle.decision.proofs.row.Row.try_cert.Given as goal
 
 abbrev pub invariant-loop-place : goal.invariant-loop-place
 invariant-loop-place l = record {
-  ends : l.place-iterator.end ≡ (arrivals_of l.cert.left).end;
-  begins : (arrivals_of l.cert.left).start ≤ l.place-iterator.start;
-  tried : Trying l.self.lens l.self.table.now l.cert l.initial.new l.new l.place-iterator.start;
+  ends : l.place-iterator.end ≡ (arrivals_of l.fn.cert.left).end;
+  begins : (arrivals_of l.fn.cert.left).start ≤ l.place-iterator.start;
+  tried : Trying l.self.lens l.self.table.now l.fn.cert l.initial.new l.new l.place-iterator.start;
 }

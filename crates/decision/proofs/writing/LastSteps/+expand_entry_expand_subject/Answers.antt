@@ -5,7 +5,7 @@ use Rattle.decision.proofs.WritingLaws.{bringing_below, bringing_small, bringing
 use Rattle.decision.proofs.writing.LastSteps.+expand_entry_expand_subject.Goals as goal
 
 pub expand_entry-returns-then-steps_at-eq0 : goal.expand_entry-returns-then-steps_at-eq0
-expand_entry-returns-then-steps_at-eq0 t c = entry_none c.args.self c.args.entry c.steps_at.ensures c.if-steps_at-eq0.true
+expand_entry-returns-then-steps_at-eq0 t c = entry_none c.args.self.now c.args.entry c.steps_at.ensures c.if-steps_at-eq0.true
 
 pub expand_entry-cert-cert-requires : goal.expand_entry-cert-cert-requires
 expand_entry-cert-cert-requires t c = bringing_below c.find_cert-i.ensures
@@ -17,7 +17,7 @@ expand_entry-expand_subject-requires t c =
     (omega (arith, steps), (omega (arith, steps, pre.0), simp length-set (omega (arith, steps, pre.1))))
 
 pub expand_entry-overflow_cast-chain : goal.expand_entry-overflow_cast-chain
-expand_entry-overflow_cast-chain t c = omega (arith, bringing_small c.find_cert-i.ensures c.args.self.inquiry.ready.accepted)
+expand_entry-overflow_cast-chain t c = omega (arith, bringing_small c.find_cert-i.ensures c.args.self.now.inquiry.ready.accepted)
 
 pub expand_entry-returns : goal.expand_entry-returns
 expand_entry-returns t c = entry_own c.find_cert-i.ensures c.cert-cert.ensures.same c.expand_subject.ensures

@@ -3,10 +3,10 @@ use Rattle.decision.proofs.WritingLaws.{brings_fact, bringing_some}
 use Rattle.decision.proofs.writing.LastSteps.find_cert.Goals as goal
 
 pub brings_by-requires : goal.brings_by-requires
-brings_by-requires c = omega (arith, c.args.self.inquiry.ready.counted)
+brings_by-requires c = omega (arith, c.args.self.now.inquiry.ready.counted)
 
 pub returns-then-brings_by : goal.returns-then-brings_by
-returns-then-brings_by c = brings_fact _ _ _ _ _ _ _ _ (omega (arith, c.args.self.inquiry.ready.counted)) c.brings_by.ensures c.if-brings_by.true
+returns-then-brings_by c = brings_fact _ _ _ _ _ _ _ _ (omega (arith, c.args.self.now.inquiry.ready.counted)) c.brings_by.ensures c.if-brings_by.true
 
 pub loop-i-init : goal.loop-i-init
 loop-i-init c = below_none _
@@ -17,4 +17,4 @@ loop-i-preserved c = below_more _ _ c.loop-i.invariant (sym c.brings_by.ensures 
 pub unreachable-requires : goal.unreachable-requires
 unreachable-requires c =
     let a = c.args in
-    bringing_some a.self a.entry c.requires.0 c.requires.1 (λ i h. c.loop-i.invariant i (omega (arith, a.self.inquiry.ready.counted)))
+    bringing_some a.self.now a.entry c.requires.0 c.requires.1 (λ i h. c.loop-i.invariant i (omega (arith, a.self.now.inquiry.ready.counted)))

@@ -10,7 +10,7 @@ pub loop-place-init : goal.loop-place-init
 loop-place-init c = below_none _
 
 pub overflow_add-j : goal.overflow_add-j
-overflow_add-j c = omega (arith, symbols_few c.args.side.cert)
+overflow_add-j c = omega (arith, symbols_few c.args.side.now.cert)
 
 pub overflow_add-first : goal.overflow_add-first
 overflow_add-first c =
@@ -18,15 +18,15 @@ overflow_add-first c =
     omega (
       arith,
       c.steps_at-first.ensures,
-      at_fits a.self.floor a.self.table.now a.from c.symbol_at-symbol.result c.loop-place.place a.self.within,
+      at_fits a.self.now.floor a.self.now.table.now a.from c.symbol_at-symbol.result c.loop-place.place a.self.now.within,
       c.steps_read-rest.ensures,
-      read_fits a.self.floor a.self.table.now a.side.cert (a.j + 1) c.loop-place.place a.to,
+      read_fits a.self.now.floor a.self.now.table.now a.side.now.cert (a.j + 1) c.loop-place.place a.to,
     )
 
 pub returns-then-first-rest : goal.returns-then-first-rest
 returns-then-first-rest c =
     let goes =
-    place_sum c.args.self.floor _ _ _ _ _ _
+    place_sum c.args.self.now.floor _ _ _ _ _ _
     c.symbol_at-symbol.ensures
     c.steps_read-whole.ensures
     c.steps_at-first.ensures
@@ -37,7 +37,7 @@ returns-then-first-rest c =
 pub loop-place-preserved : goal.loop-place-preserved
 loop-place-preserved c =
     let other =
-    place_other c.args.self.floor _ _ _ _ _ _
+    place_other c.args.self.now.floor _ _ _ _ _ _
     c.symbol_at-symbol.ensures
     c.steps_read-whole.ensures
     c.steps_at-first.ensures
@@ -49,4 +49,4 @@ pub returns : goal.returns
 returns c =
     let pre = c.requires in
     let end : c.loop-place.place ≡ 16 = omega arith in
-    (omega arith, place_last c.args.self.floor _ _ _ _ _ 16 pre.0 pre.1 (omega arith) (omega arith) (rw end at c.loop-place.invariant))
+    (omega arith, place_last c.args.self.now.floor _ _ _ _ _ 16 pre.0 pre.1 (omega arith) (omega arith) (rw end at c.loop-place.invariant))
