@@ -28,8 +28,8 @@ const TEXTS: [&str; 8] = ["rt", "antt", "edit", "h", "c", "rs", "txt", ""];
 /// The document whose quoted statements are held to the sources.
 const QUOTING: &str = "docs/PROOFS.md";
 
-/// The document that also names what was and is no more, which is not held to the sources.
-const PAST: &str = "docs/PORT.md";
+/// The documents that also name what was and is no more, which are not held to the sources.
+const PAST: [&str; 2] = ["docs/PORT.md", "docs/DESIGN-PASS.md"];
 
 /// All files below a path but those that the toolchain made, or the file itself.
 fn files_below(path: &Path, files: &mut Vec<PathBuf>) -> io::Result<()> {
@@ -157,7 +157,7 @@ fn run() -> io::Result<bool> {
     let sources = Sources::read()?;
     let mut documents = vec![PathBuf::from("README.md")];
     files_below(Path::new("docs"), &mut documents)?;
-    documents.retain(|document| document != Path::new(PAST));
+    documents.retain(|document| PAST.iter().all(|past| document != Path::new(past)));
     let (mut held, mut missing) = (0, 0);
     for document in documents {
         let (more, lost) = hold(&document, &sources)?;
