@@ -6,12 +6,6 @@ use Rattle.decision.proofs.inquiry.Inquiry.pass_over.Goals.{then-is_live, else-i
 pub loop-i-init : goal.loop-i-init
 loop-i-init c = let p = c.requires in passing_none _ _ _ _ _ p.1 p.2
 
-pub cert-cert-requires : goal.cert-cert-requires
-cert-cert-requires c = omega (arith, c.args.self.now.ready.counted)
-
-pub try_cert-requires : goal.try_cert-requires
-try_cert-requires c = (c.loop-i.invariant.within, c.cert-cert.ensures.lawful)
-
 pub loop-i-preserved : goal.loop-i-preserved
 loop-i-preserved c =
     let a = c.args in

@@ -19,12 +19,6 @@ invariant_of-pass_over c =
     let h = c.loop-lens in
     record { within = subst (Within c.args.lens) (sym c.copy_from_slice.ensures.after) (within_take c.args.lens h.table h.invariant.within) }
 
-pub pass_over-requires : goal.pass_over-requires
-pass_over-requires c =
-    let h = c.loop-lens in
-    let copied = c.copy_from_slice.ensures in
-    (copied.len ∙ h.array_long, h.invariant.within, sym copied.after)
-
 pub overflow_add-passes : goal.overflow_add-passes
 overflow_add-passes c = omega (arith, going_few c.loop-lens.invariant)
 

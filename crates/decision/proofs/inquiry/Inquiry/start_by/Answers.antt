@@ -2,7 +2,6 @@
 use mathlib.Core.Logic.{inl, inr}
 use mathlib.Core.Path.{refl, ◌∙◌}
 use native.Mathlib.Omega.{arith}
-use lib.ListN.{length-set}
 use Rattle.decision.proofs.PassingLaws.{asker_entry, started}
 use Rattle.decision.proofs.inquiry.Inquiry.start_by.Goals as goal
 
@@ -11,9 +10,6 @@ number-requires c = asker_entry _ 10 c.args.self.now.ready.asker (inl refl)
 
 pub number-requires-2 : goal.number-requires-2
 number-requires-2 c = asker_entry _ 11 c.args.self.now.ready.asker (inr refl)
-
-pub bounds-table-number-2 : goal.bounds-table-number-2
-bounds-table-number-2 c = simp length-set (omega (arith, c.fill.auto.table, c.requires, c.number-2.ensures.1))
 
 pub returns : goal.returns
 returns c =

@@ -1,4 +1,4 @@
-use Rattle.std.proofs.Common.{◌≡◌, ◌∙◌, sym, ap, subst, true, arith}
+use Rattle.std.proofs.Common.{◌∙◌, sym, ap, subst, arith}
 use Rattle.decision.proofs.PassingLaws.{Trying, left_symbol, trying_none, trying_skip, trying_more, tried_all}
 use Rattle.decision.proofs.TableLaws.{arrives, arrives_back}
 use Rattle.decision.proofs.row.Row.try_cert.Goals as goal

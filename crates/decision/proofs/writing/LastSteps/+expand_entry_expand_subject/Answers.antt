@@ -1,7 +1,6 @@
 -- `expand_entry` and `expand_subject` meet their contracts: a certificate brings the entry about, and its subject's symbols are written in turn.
 use native.Mathlib.Omega.{arith}
-use lib.ListN.{length-set}
-use Rattle.decision.proofs.WritingLaws.{bringing_below, bringing_small, bringing_steps, entry_none, entry_own, part_none, part_more, part_all}
+use Rattle.decision.proofs.WritingLaws.{bringing_below, bringing_small, entry_none, entry_own, part_none, part_more, part_all}
 use Rattle.decision.proofs.writing.LastSteps.+expand_entry_expand_subject.Goals as goal
 
 pub expand_entry-returns-then-steps_at-eq0 : goal.expand_entry-returns-then-steps_at-eq0
@@ -9,12 +8,6 @@ expand_entry-returns-then-steps_at-eq0 t c = entry_none c.args.self.now c.args.e
 
 pub expand_entry-cert-cert-requires : goal.expand_entry-cert-cert-requires
 expand_entry-cert-cert-requires t c = bringing_below c.find_cert-i.ensures
-
-pub expand_entry-expand_subject-requires : goal.expand_entry-expand_subject-requires
-expand_entry-expand_subject-requires t c =
-    let pre = c.requires in
-    let steps = bringing_steps c.find_cert-i.ensures c.cert-cert.ensures.same in
-    (omega (arith, steps), (omega (arith, steps, pre.0), simp length-set (omega (arith, steps, pre.1))))
 
 pub expand_entry-overflow_cast-chain : goal.expand_entry-overflow_cast-chain
 expand_entry-overflow_cast-chain t c = omega (arith, bringing_small c.find_cert-i.ensures c.args.self.now.inquiry.ready.accepted)

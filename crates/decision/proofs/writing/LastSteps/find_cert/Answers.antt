@@ -1,18 +1,9 @@
-use Rattle.std.proofs.Common.{◌∙◌, sym, arith, below_none, below_more}
+use Rattle.std.proofs.Common.{arith}
 use Rattle.decision.proofs.WritingLaws.{brings_fact, bringing_some}
 use Rattle.decision.proofs.writing.LastSteps.find_cert.Goals as goal
 
-pub brings_by-requires : goal.brings_by-requires
-brings_by-requires c = omega (arith, c.args.self.now.inquiry.ready.counted)
-
 pub returns-then-brings_by : goal.returns-then-brings_by
 returns-then-brings_by c = brings_fact _ _ _ _ _ _ _ _ (omega (arith, c.args.self.now.inquiry.ready.counted)) c.brings_by.ensures c.if-brings_by.true
-
-pub loop-i-init : goal.loop-i-init
-loop-i-init c = below_none _
-
-pub loop-i-preserved : goal.loop-i-preserved
-loop-i-preserved c = below_more _ _ c.loop-i.invariant (sym c.brings_by.ensures ∙ c.if-brings_by.false)
 
 pub unreachable-requires : goal.unreachable-requires
 unreachable-requires c =

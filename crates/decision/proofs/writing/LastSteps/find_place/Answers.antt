@@ -1,13 +1,9 @@
 use mathlib.Core.Path.{◌≡◌}
 use Prim.Native.Nat.{◌+◌}
 use native.Mathlib.Omega.{arith}
-use borrow.Author.Count.{below_none, below_more}
 use Rattle.decision.proofs.ReadingLaws.{symbols_few}
-use Rattle.decision.proofs.WritingLaws.{at_fits, read_fits, place_sum, place_other, place_last}
+use Rattle.decision.proofs.WritingLaws.{at_fits, read_fits, place_last}
 use Rattle.decision.proofs.writing.LastSteps.find_place.Goals as goal
-
-pub loop-place-init : goal.loop-place-init
-loop-place-init c = below_none _
 
 pub overflow_add-j : goal.overflow_add-j
 overflow_add-j c = omega (arith, symbols_few c.args.side.now.cert)
@@ -22,28 +18,6 @@ overflow_add-first c =
       c.steps_read-rest.ensures,
       read_fits a.self.now.floor a.self.now.table.now a.side.now.cert (a.j + 1) c.loop-place.place a.to,
     )
-
-pub returns-then-first-rest : goal.returns-then-first-rest
-returns-then-first-rest c =
-    let goes =
-    place_sum c.args.self.now.floor _ _ _ _ _ _
-    c.symbol_at-symbol.ensures
-    c.steps_read-whole.ensures
-    c.steps_at-first.ensures
-    c.steps_read-rest.ensures
-    c.if-first-rest.true in
-    (omega arith, goes)
-
-pub loop-place-preserved : goal.loop-place-preserved
-loop-place-preserved c =
-    let other =
-    place_other c.args.self.now.floor _ _ _ _ _ _
-    c.symbol_at-symbol.ensures
-    c.steps_read-whole.ensures
-    c.steps_at-first.ensures
-    c.steps_read-rest.ensures
-    c.if-first-rest.false in
-    below_more _ _ c.loop-place.invariant other
 
 pub returns : goal.returns
 returns c =
