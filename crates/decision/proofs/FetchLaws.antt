@@ -14,10 +14,6 @@ use Rattle.wac.proofs.ViewLaws.{alone_below}
 use Rattle.decision.specs.Engine.{Accepted}
 
 module _ {s : List ℕ} {i : ℕ} {r : Result Cert Refusal} (from : ReadAlone s i r) where
-  -- a certificate that is read is lawful
-  pub fetched_lawful : {c : Cert} → r ≡ Ok c → Lawful c
-  fetched_lawful e = subst (λ x. InRanges (comes_back x)) e from.ranges
-
   module _ (ok : Accepted s) (below : i < count_of s) where
     -- an accepted file gives each certificate below its count
     fetched_cert : comes_back r ≡ gives (cert_at s i)

@@ -111,11 +111,6 @@ within_set lens l within n v h = record {
   fits = set_fits l n v (weighing_of lens).cap within.fits h;
 }
 
--- a store of the better of what stands there and of what is offered
-pub stored : (W : Weighing) (new : List ℕ) (n n' b w w' r r' j : ℕ) → n ≡ n' → w ≡ w' → r ≡ r' → j ≡ W.along w r → b ≡ W.best (get_or new n 0) j →
-    set new n b ≡ set new n' (W.best (get_or new n' 0) (W.along w' r'))
-stored W new n n' b w w' r r' j en ew er ej eb = rw (eb, ej, ew, er, en)
-
 -- the certificate c was tried at its entries that arrive below p, and nothing else changed
 pub record Trying (lens : Lens) (old : List ℕ) (c : Cert) (new₀ new : List ℕ) (p : ℕ) : Type 0 where
   pub long : length new ≡ length new₀

@@ -26,10 +26,6 @@ use Rattle.decision.specs.Table.{is_entry, arrivals_of, number, entry_number, Nu
 use Rattle.decision.specs.Engine.{Within, held}
 use Rattle.decision.specs.declared.lens.Lens.{Lens}
 
--- copying one place more
-pub copy_more : (n : ℕ) (l from : List ℕ) → n < length l → n < length from → take n l ≡ take n from → take (n + 1) (set l n (get_or from n 0)) ≡ take (n + 1) from
-copy_more n l from h k e = rw (add-one n, take-suc-set l n (get_or from n 0), take-suc from n 0, e)
-
 -- the test says exactly what an entry is
 pub entry_of_lem : (k s a : ℕ) → is_entry k s a ≡ true → Entry keys k s a
 unfolding is_entry

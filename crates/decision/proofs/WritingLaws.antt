@@ -164,20 +164,6 @@ place_found floor l c j from to h short =
     (r.0, r.1, ap (read from) cons ∙ r.2)
 
 module _ (floor : ℕ) (l : List ℕ) (c : Cert) (j from to : ℕ) where
-  -- a place at which the sum of both parts is the whole
-  pub place_sum : (p : ℕ) {symbol whole first rest : ℕ} → symbol ≡ get_or (symbols_of c) j 0 → whole ≡ steps_read floor l c j from to →
-      first ≡ steps_at floor l from symbol p → rest ≡ steps_read floor l c (j + 1) p to → first + rest ≡ whole → Goes floor l c j from to p
-  place_sum p {first = first} e w f r sum =
-      let f' : first ≡ steps_at floor l from (get_or (symbols_of c) j 0) p = f ∙ ap (λ x. steps_at floor l from x p) e in
-      omega arith
-
-  -- and one at which it is not
-  pub place_other : (p : ℕ) {symbol whole first rest : ℕ} → symbol ≡ get_or (symbols_of c) j 0 → whole ≡ steps_read floor l c j from to →
-      first ≡ steps_at floor l from symbol p → rest ≡ steps_read floor l c (j + 1) p to → (first + rest ≡ whole → ⊥) → Goes floor l c j from to p → ⊥
-  place_other p {first = first} e w f r other sum =
-      let f' : first ≡ steps_at floor l from (get_or (symbols_of c) j 0) p = f ∙ ap (λ x. steps_at floor l from x p) e in
-      other (omega arith)
-
   -- where no place below the end will do, the end does
   pub place_last : (p : ℕ) → j < length (symbols_of c) → steps_read floor l c j from to ≤ chain_places → end_place ≤ p → p ≤ end_place →
       ((r : ℕ) → r < p → Goes floor l c j from to r → ⊥) → Goes floor l c j from to p
