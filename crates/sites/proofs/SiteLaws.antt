@@ -195,14 +195,10 @@ module _ (x : Site) where
   unfolding restful
   not_idle e = false_and _ _ e
 
-  pub idle_rest : x.idle ≡ true → (o : Option ℕ) → o ≡ next_of x 0 → (n : Bool) → is_some o ≡ not n → n ≡ restful x
+  pub idle_rest : x.idle ≡ true → is_none (next_of x 0) ≡ restful x
   unfolding restful
-  idle_rest idle o next n e = says n e ∙ turn o (next_known 0 o (sym next)) ∙ sym (and_true _ _ idle)
+  idle_rest idle = turn (next_of x 0) (next_known 0 (next_of x 0) refl) ∙ sym (and_true _ _ idle)
     where
-      says : (n : Bool) {t : Bool} → t ≡ not n → n ≡ not t
-      says true e = ap not (sym e)
-      says false e = ap not (sym e)
-
       told : (d : ℕ) (t : Bool) → leb (minute_at x d) (receipted_at x d) ≡ t → (receipted_at x d < minute_at x d → ⊥) → t ≡ true
       told d true e h = refl
       told d false e h = absurd (h (leb-false _ _ e))

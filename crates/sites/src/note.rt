@@ -69,21 +69,21 @@ impl From<Note> for [u8; Note::BYTES] {
     ghost from_gives = { λ note bytes. bytes ≡ note_bytes note };
 
     fn from(note: Note) -> [u8; Note::BYTES] {
-        let session = wac::word_bytes(note.session);
-        let minute = wac::word_bytes(note.minute);
+        let [s0, s1, s2, s3] = wac::word_bytes(note.session);
+        let [m0, m1, m2, m3] = wac::word_bytes(note.minute);
         [
-            session[0],
-            session[1],
-            session[2],
-            session[3],
+            s0,
+            s1,
+            s2,
+            s3,
             note.kind,
             note.key,
             note.symbol,
             note.arrival,
-            minute[0],
-            minute[1],
-            minute[2],
-            minute[3],
+            m0,
+            m1,
+            m2,
+            m3,
         ]
     }
 }
@@ -93,9 +93,9 @@ impl From<Note> for Entry {
 
     fn from(note: Note) -> Entry {
         Entry {
-            key: note.key as usize,
-            symbol: note.symbol as usize,
-            place: note.arrival as usize,
+            key: usize::from(note.key),
+            symbol: usize::from(note.symbol),
+            place: usize::from(note.arrival),
         }
     }
 }
@@ -104,30 +104,22 @@ impl Note {
     // The bytes of a note.
     pub const BYTES: usize = 12;
 
-    // What the first 12 bytes say.
-    pub(crate) fn read(bytes: &[u8]) -> Note
-        requires { note_length ≤ length bytes.now }
-        ensures { result ≡ note_from bytes.now }
-    {
-        Note {
-            session: wac::word_of(bytes[0], bytes[1], bytes[2], bytes[3]),
-            kind: bytes[4],
-            key: bytes[5],
-            symbol: bytes[6],
-            arrival: bytes[7],
-            minute: wac::word_of(bytes[8], bytes[9], bytes[10], bytes[11]),
-        }
-    }
-
     // What these bytes say, if they are 12 and every field is in range.
     pub(crate) fn read_formed(bytes: &[u8]) -> Option<Note>
         ensures { MatchOption result (note_ok bytes.now ≡ false) (λ note. (note_ok bytes.now ≡ true) × (note ≡ note_from bytes.now)) }
     {
-        if bytes.len() != Note::BYTES {
+        let [s0, s1, s2, s3, kind, key, symbol, arrival, m0, m1, m2, m3] = bytes else {
             return None;
-        }
-        let note = Note::read(bytes);
-        if note.is_formed() { Some(note) } else { None }
+        };
+        let note = Note {
+            session: wac::word_of(*s0, *s1, *s2, *s3),
+            kind: *kind,
+            key: *key,
+            symbol: *symbol,
+            arrival: *arrival,
+            minute: wac::word_of(*m0, *m1, *m2, *m3),
+        };
+        note.is_formed().then_some(note)
     }
 
     // Is every field in range?
@@ -137,8 +129,19 @@ impl Note {
     {
         NoteKind::try_from(self.kind).is_ok()
             && self.minute != 0
-            && (self.symbol as usize) < Table::ACCESS
+            && usize::from(self.symbol) < Table::ACCESS
             && decision::entry_number(Entry::from(self)).is_some()
+    }
+
+    // The kind of a note whose fields are in range.
+    pub(crate) fn kind(self) -> NoteKind
+        requires { formed self ≡ true }
+        ensures { kind_code result ≡ self.kind }
+    {
+        match NoteKind::try_from(self.kind) {
+            Ok(kind) => kind,
+            Err(_) => unreachable!(),
+        }
     }
 
     // The number of the entry that a note names whose fields are in range.

@@ -1,8 +1,8 @@
 // A site: its own copy of the file, the request and the session number, and for each entry its minute
 // and its receipted minute.
-ghost use Rattle.std.specs.Prelude.{◌≡◌, ◌≤◌, ◌<◌, length, MatchResult};
+ghost use Rattle.std.specs.Prelude.{◌≡◌, ◌≤◌, ◌<◌, [], length, MatchResult};
 ghost use Rattle.wac.specs.Limits.{entries, keys, largest_file};
-ghost use Rattle.wac.specs.Answers.{first_of};
+ghost use Rattle.wac.specs.Answers.{gives, refuses, first_of};
 ghost use Rattle.sites.specs.Notes.{note_length, note_from};
 ghost use Rattle.sites.specs.declared.site.NoteRefused.TheVariants.{Room};
 ghost use Rattle.sites.specs.Site.{
@@ -14,7 +14,6 @@ ghost use Rattle.sites.specs.Site.{
   raised_site,
   receipted_site,
   raise_of,
-  taken_as,
   note_cases,
   Takes,
   next_of,
@@ -32,7 +31,8 @@ use wac::Table;
 // A site.
 #[derive(Clone, Copy)]
 pub struct Site {
-    // The bytes of its file, and how many of them there are: an array with a length, since memory is fixed.
+    // The bytes of its file, and how many of them there are: an array with a length beside it, since memory is
+    // fixed, and `opened_site` and `file_of` name both.
     file: [u8; Table::LARGEST],
     used: usize,
     request: Request,
@@ -46,8 +46,8 @@ pub struct Site {
     idle: bool,
 }
 
-// An opening: the answer, and the site, blank where it is refused: the site stands beside the answer, since theorems
-// speak of the site of a refused opening (`blank_works`, `blank_takes`).
+// An opening: the answer, and the site, blank where it is refused. The site stands beside the answer, since `Opens`
+// says which site a refused opening has, and `blank_works` and `blank_takes` what becomes of it.
 #[derive(Clone, Copy)]
 pub struct Opening {
     pub answer: Result<(), Refused>,
@@ -67,7 +67,8 @@ pub enum NoteRefused {
     Later,
 }
 
-// The refusal's number: no From, since it is one of the numbers of what comes back, as `decision::refusal_number` is.
+// The refusal's number: a function, since docs/PROOFS.md names it, and `u8::from(why)` would not say which number
+// of it.
 pub fn note_refusal_number(why: NoteRefused) -> u8
     ensures { result ≡ note_number why }
 {
@@ -79,22 +80,25 @@ pub fn note_refusal_number(why: NoteRefused) -> u8
     }
 }
 
-// A note taken: the answer, the note's kind or why it is refused, and the site after it.
+// A note taken: the answer, the note's kind or why it is refused, and the site after it. The site stands beside the
+// answer, and is no `&mut`: `Takes` and `Act` speak of a site and of the one after it.
 #[derive(Clone, Copy)]
 pub struct Taking {
     pub answer: Result<NoteKind, NoteRefused>,
     pub site: Site,
 }
 
-// What a site shows: a flag beside the minute, since the theorems on two sites name both (`rest_agrees`).
+// What a site shows: a flag beside the minute, since the theorems on two sites name both (`rest_agrees` the minute,
+// `granted_chain` and `exchanges_agree` the flag).
 #[derive(Clone, Copy)]
 pub struct Showing {
     pub minute: u32,
     pub granted: bool,
 }
 
-// The minutes at the start: without end at the asker's two marks, none elsewhere. The start over a lent list that
-// `decision` has asks its caller for a key below 16, and no public function asks anything.
+// The minutes at the start: without end at the asker's two marks, none elsewhere. `decision` writes the same start
+// (`Inquiry::start_by`), but for a question in order, which only it makes; made public for a bare key it would have
+// to ask for one below 16, and no public function asks anything (README, "Any bytes and any numbers").
 fn start_minutes(asker: usize) -> [u32; Table::ENTRIES]
     requires { asker < keys }
     ensures { result ≡ start_of asker }
@@ -155,7 +159,7 @@ impl Site {
     {
         let mut copy = [0u8; Table::LARGEST];
         copy[..file.len()].copy_from_slice(file);
-        let minutes = start_minutes(request.asker as usize);
+        let minutes = start_minutes(usize::from(request.asker));
         Site {
             file: copy,
             used: file.len(),
@@ -200,9 +204,10 @@ impl Site {
         }
     }
 
-    // A raise: the entry's minute and receipted minute become the greater; if its minute rose, the site
-    // must work again. An entry's number is a plain number here and below: a type for one that exists would be
-    // unwrapped at each index, where the `requires` is one comparison, met by the function that gave the number.
+    // A raise: the entry's minute and receipted minute become the greater; if its minute rose, the site must work
+    // again. An entry's number is a plain number in this crate, here, in `receipt_at`, `raise_of`, `entry_at` and
+    // `Note::entry`: a type for one that exists would be unwrapped at each indexing, where the `requires` is one
+    // comparison, met by the function that gave the number.
     fn raise_at(self, entry: usize, minute: u32) -> Site
         requires { entry < entries }
         ensures { result ≡ raised_site self entry minute }
@@ -229,9 +234,12 @@ impl Site {
         told
     }
 
-    // What becomes of a note, before anything changes: 23, 27, 26, 28, or its kind.
-    fn answer_for(&self, bytes: &[u8], room: usize) -> Result<NoteKind, NoteRefused>
-        ensures { taken_as result ≡ first_of (note_cases self.now bytes.now room) (note_from bytes.now).kind }
+    // What becomes of a note, before anything changes: the first refusal in document 01's order (room, form,
+    // session, later), or the note that is taken.
+    fn answer_for(&self, bytes: &[u8], room: usize) -> Result<Note, NoteRefused>
+        ensures { MatchResult result
+            (λ said. (said ≡ note_from bytes.now) × (first_of (note_cases self.now bytes.now room) said.kind ≡ gives said.kind))
+            (λ why. first_of (note_cases self.now bytes.now room) (note_from bytes.now).kind ≡ refuses (note_number why) []) }
     {
         room_for_note(room)?;
         let said = Note::read_formed(bytes).ok_or(NoteRefused::Form)?;
@@ -241,13 +249,13 @@ impl Site {
         if said.session != self.session {
             return Err(NoteRefused::Session);
         }
-        if said.kind == u8::from(NoteKind::Raise) {
-            return Ok(NoteKind::Raise);
+        match said.kind() {
+            NoteKind::Raise => Ok(said),
+            NoteKind::Receipt if self.minutes[said.entry()] < said.minute => Err(
+                NoteRefused::Later,
+            ),
+            NoteKind::Receipt => Ok(said),
         }
-        if self.minutes[said.entry()] < said.minute {
-            return Err(NoteRefused::Later);
-        }
-        Ok(NoteKind::Receipt)
     }
 
     // Takes a note that was brought to the site. The receipt of a raise is written to the first 12 lent
@@ -255,23 +263,26 @@ impl Site {
     pub fn take(self, bytes: &[u8], receipt: &mut [u8]) -> Taking
         ensures { Takes self bytes.now receipt.old result receipt.new }
     {
-        let answer = self.answer_for(bytes, receipt.len());
-        match answer {
-            Err(_) => Taking { answer, site: self },
-            Ok(NoteKind::Raise) => {
-                let said = Note::read(bytes);
-                let raised = self.raise_at(said.entry(), said.minute);
+        let said = match self.answer_for(bytes, receipt.len()) {
+            Ok(said) => said,
+            Err(why) => {
+                return Taking {
+                    answer: Err(why),
+                    site: self,
+                };
+            }
+        };
+        let kind = said.kind();
+        let site = match kind {
+            NoteKind::Raise => {
                 said.receipt().write(receipt);
-                Taking {
-                    answer,
-                    site: raised,
-                }
+                self.raise_at(said.entry(), said.minute)
             }
-            Ok(NoteKind::Receipt) => {
-                let said = Note::read(bytes);
-                let told = self.receipt_at(said.entry(), said.minute);
-                Taking { answer, site: told }
-            }
+            NoteKind::Receipt => self.receipt_at(said.entry(), said.minute),
+        };
+        Taking {
+            answer: Ok(kind),
+            site,
         }
     }
 
@@ -294,6 +305,7 @@ impl Site {
         ensures { result ≡ raise_of self.now entry }
     {
         let named = entry_at(entry);
+        // No From leads from usize to u8; `entry_at` bounds each.
         Note {
             session: self.session,
             kind: u8::from(NoteKind::Raise),
@@ -304,7 +316,8 @@ impl Site {
         }
     }
 
-    // The next note to send, from a given entry number on, is written to the first 12 lent bytes.
+    // The next note to send, from a given entry number on, is written to the first 12 lent bytes; the one refusal
+    // is `Room`.
     pub fn next(&self, from: usize, bytes: &mut [u8]) -> Result<Option<usize>, NoteRefused>
         ensures { Sends self.now from bytes.old result bytes.new }
     {
@@ -329,7 +342,7 @@ impl Site {
     pub fn shown(&self) -> Showing
         ensures { result ≡ showing self.now }
     {
-        let owner = self.request.owner as usize;
+        let owner = usize::from(self.request.owner);
         let delegate = Entry {
             key: owner,
             symbol: Table::DELEGATE,
