@@ -15,7 +15,8 @@ pub enum Lens {
 
 #[tactic(auto, unfolding(rewriting::specs::Weighing::minutes, rewriting::specs::Weighing::steps))]
 impl Lens {
-    // What an entry weighs that no chain of at most 200 steps brings about.
+    // What an entry weighs that no chain of at most 200 steps brings about. No From leads from usize to
+    // u32, and a constant calls no TryFrom: `as`.
     const UNCOUNTED: u32 = Table::CHAIN_PLACES as u32 + 1;
 
     // No weight.

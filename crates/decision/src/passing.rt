@@ -23,12 +23,12 @@ impl<'a> Row<'a> {
     {
         let cert = side.cert;
         let entry = Entry {
-            key: cert.issuer as usize,
-            symbol: cert.left as usize,
+            key: usize::from(cert.issuer),
+            symbol: usize::from(cert.left),
             place,
         };
         let e = entry.number();
-        let read = self.read_side(side, cert.subject as usize, place);
+        let read = self.read_side(side, usize::from(cert.subject), place);
         let offer = self.lens.joined(self.lens.weight(cert), read);
         new[e] = self.lens.better(new[e], offer);
     }
@@ -39,7 +39,7 @@ impl<'a> Row<'a> {
         ensures { Tried self.now.lens self.now.table.now cert new.old new.new }
     {
         let side = RightSide { cert };
-        for place in entries::arrivals_of(cert.left as usize) {
+        for place in entries::arrivals_of(usize::from(cert.left)) {
             self.try_at(new, &side, place);
         }
     }
@@ -63,7 +63,7 @@ impl<'a> Inquiry<'a> {
         fill(table, lens.none());
         let whole = lens.whole();
         let delegate = Entry {
-            key: self.request.asker as usize,
+            key: usize::from(self.request.asker),
             symbol: Table::DELEGATE,
             place: Table::END,
         };

@@ -24,10 +24,10 @@ impl RightSide {
     pub fn symbols_in(&self) -> usize
         ensures { (result ≡ length (symbols_of self.now.cert)) × (result ≤ 4) }
     {
-        if self.cert.mark as usize == Table::UNUSED {
-            self.cert.count as usize
+        if usize::from(self.cert.mark) == Table::UNUSED {
+            usize::from(self.cert.count)
         } else {
-            self.cert.count as usize + 1
+            usize::from(self.cert.count) + 1
         }
     }
 
@@ -37,13 +37,13 @@ impl RightSide {
         requires { j < length (symbols_of self.now.cert) }
         ensures { result ≡ get_or (symbols_of self.now.cert) j 0 }
     {
-        if self.cert.count as usize <= j {
-            return self.cert.mark as usize;
+        if usize::from(self.cert.count) <= j {
+            return usize::from(self.cert.mark);
         }
         match j {
-            0 => self.cert.ids.0 as usize,
-            1 => self.cert.ids.1 as usize,
-            _ => self.cert.ids.2 as usize,
+            0 => usize::from(self.cert.ids.0),
+            1 => usize::from(self.cert.ids.1),
+            _ => usize::from(self.cert.ids.2),
         }
     }
 }

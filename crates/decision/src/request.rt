@@ -39,7 +39,7 @@ impl Request {
     pub(crate) fn is_usable(self, cert: Cert) -> bool
         ensures { result ≡ usable self cert }
     {
-        let rights = if cert.kind as usize == Table::AUTHORIZATION {
+        let rights = if usize::from(cert.kind) == Table::AUTHORIZATION {
             all_held(cert.rights, self.rights)
         } else {
             true

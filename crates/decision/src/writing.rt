@@ -64,10 +64,10 @@ impl<'a> LastSteps<'a> {
         ensures { result ≡ brings self.now.inquiry.file.now self.now.inquiry.request self.now.floor self.now.table.now i entry.key entry.symbol entry.place }
     {
         let cert = self.inquiry.cert(i);
-        let subject = cert.subject as usize;
+        let subject = usize::from(cert.subject);
         Lens::Steps(self.floor).is_live(self.inquiry.request, cert)
-            && cert.issuer as usize == entry.key
-            && cert.left as usize == entry.symbol
+            && usize::from(cert.issuer) == entry.key
+            && usize::from(cert.left) == entry.symbol
             && self.steps_read(&RightSide { cert }, 0, subject, entry.place) + 1
                 == self.steps_at(entry)
     }
@@ -106,7 +106,8 @@ impl<'a> LastSteps<'a> {
         Table::END
     }
 
-    // Writes an entry from `at` on, and gives the next place.
+    // Writes an entry from `at` on, and gives the next place. A certificate's number is below 128, and no
+    // From leads from usize to u8: `as`, which is proved to lose nothing.
     #[cycle(expand_entry_expand_subject)]
     pub fn expand_entry(&self, chain: &mut [u8], at: usize, entry: Entry) -> usize
         requires { (steps_at self.now.floor self.now.table.now entry.key entry.symbol entry.place ≤ chain_places) × (at + steps_at self.now.floor self.now.table.now entry.key entry.symbol entry.place ≤ length chain.old) }
@@ -128,7 +129,7 @@ impl<'a> LastSteps<'a> {
         ensures { Wrote (ReadBy self.now.inquiry.file.now self.now.inquiry.request self.now.floor side.now.cert to) at (steps_read self.now.floor self.now.table.now side.now.cert 0 side.now.cert.subject to) chain.old chain.new result }
     {
         let mut next = at;
-        let mut from = side.cert.subject as usize;
+        let mut from = usize::from(side.cert.subject);
         for j in 0..side.symbols_in() {
             let symbol = side.symbol_at(j);
             let place = self.find_place(side, j, from, to);

@@ -6,7 +6,7 @@ use Rattle.decision.proofs.row.Row.try_cert.Goals as goal
 pub loop-place-init : goal.loop-place-init
 loop-place-init c =
     let a = c.args in
-    let same = c.into_iter-place-iterator.ensures.into_iter_gives ∙ c.arrivals_of-place-items.ensures in
+    let same = c.into_iter-place-iterator.ensures.into_iter_gives ∙ (rw c.from.ensures at c.arrivals_of-place-items.ensures) in
     let begins = ap (λ r. r.start) same in
     let none = trying_none a.self.now.lens a.self.now.table.now a.cert a.new.now c.requires.0 in
     record {

@@ -16,7 +16,7 @@ pub expand_entry-returns : goal.expand_entry-returns
 expand_entry-returns t c = entry_own c.find_cert-i.ensures c.cert-cert.ensures.same c.expand_subject.ensures
 
 pub expand_subject-loop-j-init : goal.expand_subject-loop-j-init
-expand_subject-loop-j-init t c = part_none
+expand_subject-loop-j-init t c = rw c.from-from.ensures part_none
 
 pub expand_subject-loop-j-preserved : goal.expand_subject-loop-j-preserved
 expand_subject-loop-j-preserved t c =

@@ -8,16 +8,16 @@ pub overflow_add-result : goal.overflow_add-result
 overflow_add-result c =
     let a = c.args in
     let cert = c.cert-cert.result in
-    omega (arith, c.steps_read.ensures, read_fits a.self.now.floor a.self.now.table.now cert 0 cert.subject a.entry.place)
+    omega (arith, c.steps_read.ensures, read_fits a.self.now.floor a.self.now.table.now cert 0 c.from-subject.result a.entry.place)
 
-pub returns-then-cert-entry-2 : goal.returns-then-cert-entry-2
-returns-then-cert-entry-2 c =
+pub returns-then-from-entry-2 : goal.returns-then-from-entry-2
+returns-then-from-entry-2 c =
     let a = c.args in
     let tests = brings_tests a.self.now a.i a.entry c.cert-cert.result c.cert-cert.ensures.same in
     grind (arith, common_steps, tests)
 
-pub returns-else-cert-entry-2 : goal.returns-else-cert-entry-2
-returns-else-cert-entry-2 c =
+pub returns-else-from-entry-2 : goal.returns-else-from-entry-2
+returns-else-from-entry-2 c =
     let a = c.args in
     let tests = brings_tests a.self.now a.i a.entry c.cert-cert.result c.cert-cert.ensures.same in
     grind (arith, common_steps, tests)
