@@ -99,7 +99,7 @@ fn owner_entry(request: Request) -> Entry
     ensures { result ≡ record { key = request.owner; symbol = delegate; place = end_place } }
 {
     Entry {
-        key: request.owner as usize,
+        key: usize::from(request.owner),
         symbol: Table::DELEGATE,
         place: Table::END,
     }
