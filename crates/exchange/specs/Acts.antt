@@ -1,5 +1,5 @@
 -- What each act makes of two sites: document 01, "Two sites", by what the sites' own functions promise.
-use Rattle.std.specs.Prelude.{◌≡◌, Bool, true, false, List, ℕ, ◌+◌, ◌%◌, Option, Some, None, Result, Ok, Err}
+use Rattle.std.specs.Prelude.{◌≡◌, ◌<◌, MatchResult, Bool, true, false, List, ℕ, ◌+◌, ◌%◌, Option, Some, None, Result, Ok, Err}
 use Rattle.decision.specs.declared.request.Request.{Request}
 use Rattle.sites.specs.Site.{Works, Takes, Sends}
 use Rattle.sites.specs.Line.{System, Reached}
@@ -11,11 +11,26 @@ use Rattle.sites.specs.declared.site.NoteRefused.{NoteRefused}
 use Rattle.sites.specs.declared.site.Taking.{Taking}
 use Rattle.lines.specs.declared.act.Outcome.TheVariants as outcomes
 use Rattle.exchange.specs.Mail.{blank, kept_as, Keeps}
+use Rattle.exchange.specs.declared.Act.{Act}
+use Rattle.exchange.specs.declared.Act.TheVariants as acts
+use Rattle.exchange.specs.declared.UnknownAct.{UnknownAct}
 use Rattle.exchange.specs.declared.desk.Desk.{Desk}
 use Rattle.exchange.specs.declared.desk.Done.{Done}
 use Rattle.exchange.specs.declared.desk.Delivery.{Delivery}
 use Rattle.exchange.specs.declared.desk.Sent.{Sent}
 use Rattle.exchange.specs.declared.desk.Written.{Written}
+
+-- the number of each act
+abbrev pub act_number : Act → ℕ
+act_number acts.Works = 0
+act_number acts.Writes = 1
+act_number acts.PassesOn = 2
+act_number acts.Exchanges = 3
+act_number acts.Brings = 4
+
+-- the result is the act with this number, or there is none
+abbrev pub NumbersAct : ℕ → Result Act UnknownAct → Type 0
+NumbersAct number r = MatchResult r (λ act. act_number act ≡ number) (λ _. 4 < number)
 
 -- the two sites in each other's places
 abbrev pub swapped_desk : Desk → Desk

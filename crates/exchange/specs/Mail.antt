@@ -1,5 +1,6 @@
 -- The notes and receipts that a side wrote, as the program keeps them: 12 bytes each, one after another.
 use Rattle.std.specs.Prelude.{◌≡◌, Bool, cond, ◌&&◌, List, ◌++◌, ℕ, ◌+◌, ◌*◌, leb, ltb, length, take, drop, replicate, Option, Some, None}
+use Rattle.std.specs.Option.{unwrap_or}
 use Rattle.sites.specs.Notes.{note_length}
 
 -- how many notes of a side are kept
@@ -14,13 +15,13 @@ blank = replicate note_length 0
 abbrev pub has_room : List ℕ → ℕ → Bool
 has_room notes n = ltb n kept_notes && leb (n * note_length + note_length) (length notes)
 
--- the note with this number, and 12 zeros where there is none
-abbrev pub kept_as : List ℕ → ℕ → List ℕ
-kept_as notes n = cond (has_room notes n) (take note_length (drop (n * note_length) notes)) blank
-
 -- the note with this number, if there is one
 abbrev pub kept_at : List ℕ → ℕ → Option (List ℕ)
 kept_at notes n = cond (has_room notes n) (Some (take note_length (drop (n * note_length) notes))) None
+
+-- the note with this number, and 12 zeros where there is none
+abbrev pub kept_as : List ℕ → ℕ → List ℕ
+kept_as notes n = unwrap_or (kept_at notes n) blank
 
 -- the notes with one more after the first n
 abbrev pub with_note : List ℕ → ℕ → List ℕ → List ℕ

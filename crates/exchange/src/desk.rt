@@ -21,7 +21,9 @@ use crate::mail;
 use lines::Outcome;
 use sites::{Note, NoteKind, NoteRefused, Site, Taking};
 
-// The two sites, and how many notes of each are kept.
+// The two sites, and how many notes of each are kept. The counts stand beside the sites: `swapped_desk` and
+// `with_first` name the four fields. A desk is given back and is no `&mut`: `Worked`, `Wrote`, `Brought`, `PassedOn`,
+// `Exchanged`, `HalfDone` and `FullDone` speak of a desk and of the one after it.
 #[derive(Clone, Copy)]
 pub struct Desk {
     pub first: Site,
@@ -123,6 +125,7 @@ impl Desk {
                 outcome: Outcome::Nothing,
             };
         };
+        // In two steps: tried in one, and the borrow checker takes no array out of a nested pattern yet.
         let Written { entry, note } = written;
         let first_count = mail::keep(notes, self.first_count, note);
         Done {

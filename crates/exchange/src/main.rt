@@ -17,6 +17,7 @@ mod desk;
 mod mail;
 
 ghost use Rattle.std.specs.Prelude.{◌<◌, length, IfSome};
+ghost use Rattle.exchange.specs.Acts.{NumbersAct};
 
 use decision::Request;
 use desk::{Desk, Done};
@@ -29,7 +30,8 @@ const HEAD: usize = 11;
 // More bytes than the length of a file can say.
 const FILE: usize = 65536;
 
-// Fills the lent bytes from standard input, where it has as many.
+// Fills the lent bytes from standard input, where it has as many. `cases` has the same: a common one would be
+// public in `lines`, and no contract could say which bytes it reads.
 fn fill(rt: &HostRuntime, bytes: &mut [u8]) -> Option<()> {
     match lines::read_input(rt, bytes) {
         Ok(count) if count == bytes.len() => Some(()),
@@ -79,6 +81,8 @@ struct UnknownAct;
 impl TryFrom<u8> for Act {
     type Error = UnknownAct;
 
+    ghost try_from_gives = { NumbersAct };
+
     fn try_from(number: u8) -> Result<Self, UnknownAct> {
         match number {
             0 => Ok(Act::Works),
@@ -109,7 +113,8 @@ fn act_first(
     Some(done)
 }
 
-// The next act, where it stands whole on standard input: the even ones are A's, the odd ones B's.
+// The next act, where there is one of that number and it stands whole on standard input: the even ones are A's,
+// the odd ones B's.
 fn next_act(rt: &HostRuntime, desk: Desk, a: &mut [u8], b: &mut [u8]) -> Option<Done> {
     let [byte] = read_bytes::<1>(rt)?;
     let act = Act::try_from(byte / 2).ok()?;
@@ -123,7 +128,7 @@ fn next_act(rt: &HostRuntime, desk: Desk, a: &mut [u8], b: &mut [u8]) -> Option<
     })
 }
 
-// Prints the line after an act.
+// Prints the line after an act, and gives how many bytes were handed over.
 fn tells(rt: &(impl Print + Eprint), done: Done) -> Result<usize, Failed> {
     let Done { desk, outcome } = done;
     let mut line = [0; Line::ROOM];
@@ -138,9 +143,9 @@ fn declines(rt: &(impl Print + Eprint), why: Unopened) {
     let _ = lines::print(rt, lined, &line);
 }
 
-// The acts, until the input ends, an act does not stand there whole or a line cannot be printed. A proved
-// loop has to end, and nothing says that the input does: the loop counts its turns, to a number that no
-// run uses up.
+// The acts, until the input ends, a number stands for no act, an act does not stand there whole or a line cannot
+// be printed. A proved loop has to end, and nothing says that the input does: the loop counts its turns, to a
+// number that no run uses up.
 fn run(rt: &HostRuntime, mut desk: Desk) {
     let mut a_notes = [0; mail::BYTES];
     let mut b_notes = [0; mail::BYTES];
@@ -162,9 +167,9 @@ fn open_both(head: [u8; HEAD], a_file: &[u8], b_file: &[u8]) -> Result<Desk, Uno
         owner,
         asker,
         rights,
-        at: wac::word_of(t0, t1, t2, t3),
+        at: u32::from_be_bytes([t0, t1, t2, t3]),
     };
-    let session = wac::word_of(s0, s1, s2, s3);
+    let session = u32::from_be_bytes([s0, s1, s2, s3]);
     let a = Site::open(a_file, request, session);
     let b = Site::open(b_file, request, session);
     a.answer.map_err(Unopened::First)?;
@@ -180,7 +185,7 @@ fn open_both(head: [u8; HEAD], a_file: &[u8], b_file: &[u8]) -> Result<Desk, Uno
 fn main(rt: HostRuntime) {
     let mut a_lent = io::large_buffer();
     let mut b_lent = io::large_buffer();
-    let head = read_bytes(&rt);
+    let head = read_bytes::<HEAD>(&rt);
     let a_file = read_file(&rt, &mut a_lent);
     let b_file = read_file(&rt, &mut b_lent);
     let (Some(head), Some(a_file), Some(b_file)) = (head, a_file, b_file) else {
