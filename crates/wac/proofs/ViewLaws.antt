@@ -11,7 +11,7 @@ use Rattle.wac.specs.Bytes.{AreBytes}
 use Rattle.wac.specs.Answers.{Answer, gives, refuses, ◌if◌, first_of, comes_back}
 use Rattle.wac.specs.Record.{Lawful}
 use Rattle.wac.specs.File.{count_of, place_of, record_at, cert_at, frame_cases, file_cases}
-use Rattle.wac.specs.View.{number_cases, alone_cases, fetch_cases, after, InRanges, ReadAlone, ViewOf, FetchedBy, FetchedFrom}
+use Rattle.wac.specs.View.{number_cases, alone_cases, fetch_cases, after, InRanges, ViewOf, FetchedBy, FetchedFrom}
 use Rattle.wac.specs.declared.refusal.Refusal.{Refusal}
 use Rattle.wac.specs.declared.cert.Cert.{Cert}
 use Rattle.wac.specs.declared.view.View.{View}
@@ -63,13 +63,6 @@ module _ (s : List ℕ) (n : ℕ) where
       turn : (b : Bool) → leb (count_of s) n ≡ b → first_of (alone_cases s n) (cert_at s n) ≡ first_of ((24 if leb (count_of s) n) ∷ []) (cert_at s n)
       turn true past = alone_given (framed_accepted s (file_kept s e).0) ∙ first_holds _ _ _ past ∙ sym (first_holds _ _ _ past)
       turn false below = alone_below e (leb-false _ _ below) ∙ sym (first_fails _ _ _ below ∙ first_none _)
-
-  -- an answer of a check that accepts leaves what the record alone gives
-  pub kept_reads : {kept : Result ℕ Refusal} {k : ℕ} {r : Result Cert Refusal} → kept ≡ Ok k → ReadAlone s n r → FetchedBy kept s n r
-  kept_reads is read = record {
-    answer = read.answer ∙ sym (ap (λ x. after (comes_back x) (first_of (alone_cases s n) (cert_at s n))) is);
-    ranges = read.ranges;
-  }
 
 module _ (lent : Bor (List ℕ)) (v : View) (of : ViewOf lent v) where
   -- by the view of a file each certificate is fetched as the whole file says: 10 to 15, then 24

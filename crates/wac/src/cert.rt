@@ -12,8 +12,9 @@ use crate::limits::Table;
 #[derive(Clone, Copy)]
 pub struct Ids(pub u8, pub u8, pub u8);
 
-// A certificate, as a record's bytes hold it. Its kind is a byte and no enum: any byte can stand there,
-// and what is against the table is refused by `check` and `append`.
+// A certificate, as a record's bytes hold it. Its kind, symbols and marks are bytes and no enums, and its
+// count stands beside its ids: any bytes can stand there (`cert_from`), and what is against the table is
+// refused by `check` and `append`.
 #[derive(Clone, Copy)]
 pub struct Cert {
     pub kind: u8,

@@ -19,6 +19,7 @@ fn marked(file: &[u8]) -> bool
 
 // What the file's frame says, its header and its length: its count, or 10 to 14. The records are not
 // looked at.
+#[tactic(auto, unfolding(crate::specs::File::frame_cases, crate::specs::Answers::first_of))]
 pub fn frame_of(file: &[u8]) -> Result<usize, Refusal>
     ensures { comes_back result ≡ first_of (frame_cases file.now) (count_of file.now) }
 {
@@ -31,7 +32,7 @@ pub fn frame_of(file: &[u8]) -> Result<usize, Refusal>
     if bytes::half_of(file[3], file[4]) != Table::VERSION {
         return Err(Refusal::Version);
     }
-    let count = file[5] as usize;
+    let count = usize::from(file[5]);
     let size = Table::HEADER + Table::RECORD * count;
     if Table::CERTIFICATES < count {
         return Err(Refusal::TooMany);
@@ -43,7 +44,7 @@ pub fn frame_of(file: &[u8]) -> Result<usize, Refusal>
 }
 
 // The lowest number of a record that is against the table, if there is one.
-#[tactic(auto, using(crate::proofs::Tests::lowest_found, crate::proofs::Tests::lowest_none), unfolding(crate::specs::File::lowest_bad))]
+#[tactic(auto, using(crate::proofs::Tests::lowest_found, crate::proofs::Tests::lowest_none, crate::proofs::RecordLaws::first_kept), unfolding(crate::specs::File::lowest_bad))]
 fn lowest_bad(file: &[u8], count: usize) -> Option<usize>
     requires { (count ≤ certificates) × (header_bytes + record_bytes * count ≤ length file.now) }
     ensures lowest { unwrap_or result count ≡ lowest_bad file.now count }
@@ -59,6 +60,7 @@ fn lowest_bad(file: &[u8], count: usize) -> Option<usize>
 
 // The check of a whole file: accepted with its count, or refused by 10 to 15, the lowest number
 // first, 15 with the lowest record that is against the table.
+#[tactic(auto, using(crate::proofs::FileLaws::frame_accepted, crate::proofs::FileLaws::file_refused, crate::proofs::FileLaws::file_against, crate::proofs::FileLaws::file_accepted))]
 pub fn check(file: &[u8]) -> Result<usize, Refusal>
     ensures { comes_back result ≡ first_of (file_cases file.now) (count_of file.now) }
 {

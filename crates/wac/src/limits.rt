@@ -5,7 +5,7 @@ ghost use Rattle.wac.specs.Limits.{limits};
 
 // The certificate table: its limits are its associated constants.
 #[derive(Clone, Copy)]
-pub struct Table {}
+pub struct Table;
 
 impl Table {
     // Keys are 0 to 15.

@@ -6,13 +6,15 @@ ghost use Rattle.wac.specs.Ranges.{range_at, row_of, in_range, spare, byte_ok, r
 
 use crate::limits::Table;
 
-// The least and the greatest number that a byte may have.
+// The least and the greatest number that a byte may have. No RangeInclusive: the definitions speak of
+// these two numbers (`in_range`), and one that is iterated has a third part.
 #[derive(Clone, Copy)]
 pub struct Range {
     pub least: u8,
     pub greatest: u8,
 }
 
+// The limits are usize (`table_limits`), and no From leads from there to a byte: hence `as`.
 const NAME: Range = Range {
     least: Table::NAME as u8,
     greatest: Table::NAME as u8,
@@ -117,7 +119,7 @@ fn within(range: Range, b: u8) -> bool
 fn is_spare(number: u8, i: usize) -> bool
     ensures { result ≡ spare number i }
 {
-    i < IDS_TO && IDS_FROM + number as usize <= i
+    i < IDS_TO && IDS_FROM + usize::from(number) <= i
 }
 
 // Is byte i of the record as the table says?

@@ -23,7 +23,7 @@ pub enum Refusal {
     NoSuch,
 }
 
-// The refusal's number.
+// The refusal's number. A function and no From: a refusal has two numbers, this and its record's.
 pub fn number_of(why: Refusal) -> u8
     ensures { result ≡ number_of why }
 {

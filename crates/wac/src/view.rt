@@ -11,6 +11,7 @@ use crate::refusal::Refusal;
 use crate::{cert, file, record};
 
 // Record n alone, of a file whose frame is in order and has this count.
+#[tactic(auto, using(crate::proofs::RecordLaws::first_kept, crate::proofs::RecordLaws::first_cert), unfolding(crate::specs::View::number_cases, crate::specs::Answers::first_of, crate::specs::File::cert_at))]
 fn record_below(file: &[u8], count: usize, n: usize) -> Result<Cert, Refusal>
     requires { (count ≤ certificates) × (header_bytes + record_bytes * count ≤ length file.now) }
     ensures { comes_back result ≡ first_of (number_cases file.now count n) (cert_at file.now n) }
@@ -29,6 +30,7 @@ fn record_below(file: &[u8], count: usize, n: usize) -> Result<Cert, Refusal>
 // not below the count, 15 with this number where this one record is against the table. The other
 // records are not looked at, so a certificate here does not say that the file is accepted: it is for
 // callers that have checked the file, and then it gives every certificate below the count.
+#[tactic(auto, using(crate::proofs::FileLaws::frame_accepted, crate::proofs::ViewLaws::alone_refused, crate::proofs::ViewLaws::alone_given, crate::proofs::ViewLaws::alone_ranges))]
 pub fn record_alone(file: &[u8], n: usize) -> Result<Cert, Refusal>
     ensures { ReadAlone file.now n result }
 {
@@ -66,17 +68,9 @@ impl<'a> View<'a> {
     pub fn fetch(self, n: usize) -> Result<Cert, Refusal>
         ensures { FetchedBy self.entry.kept self.entry.file.now n result }
     {
-        fetch_kept(self.file, self.kept, n)
+        self.kept?;
+        record_alone(self.file, n)
     }
-}
-
-// What a view that keeps this answer of a check fetches: the answer's refusal, else what record n
-// alone gives.
-fn fetch_kept(file: &[u8], kept: Result<usize, Refusal>, n: usize) -> Result<Cert, Refusal>
-    ensures { FetchedBy kept file.now n result }
-{
-    kept?;
-    record_alone(file, n)
 }
 
 // The same for a caller that has the lent file itself: it is checked as a whole at each call.

@@ -19,6 +19,7 @@ fn cert_ok(cert: Cert) -> bool
 }
 
 // The answer where the used part is a file with this count: full, the new certificate, room.
+#[tactic(auto, unfolding(crate::specs::Writer::cert_cases, crate::specs::Answers::first_of))]
 fn answer_for(length: usize, used: usize, count: usize, cert: Cert) -> Result<usize, Refusal>
     requires { used ≤ length }
     ensures { comes_back result ≡ first_of (cert_cases length used count cert) (used + record_bytes) }
@@ -36,6 +37,7 @@ fn answer_for(length: usize, used: usize, count: usize, cert: Cert) -> Result<us
 }
 
 // The answer, before anything is written.
+#[tactic(auto, using(crate::proofs::WriterLaws::append_past, crate::proofs::WriterLaws::append_refused, crate::proofs::WriterLaws::append_given))]
 fn answer(buffer: &[u8], used: usize, cert: Cert) -> Result<usize, Refusal>
     ensures { comes_back result ≡ first_of (append_cases buffer.now used cert) (used + record_bytes) }
 {
@@ -47,7 +49,8 @@ fn answer(buffer: &[u8], used: usize, cert: Cert) -> Result<usize, Refusal>
     answer_for(length, used, count, cert)
 }
 
-// Appends a certificate to the file in the buffer's first `used` bytes: raises byte 5 by 1, writes
+// Appends a certificate to the file in the buffer's first `used` bytes (the length stands beside the
+// buffer, as C lends both to `wac_append`): raises byte 5 by 1, writes
 // the next 18 bytes and no others, and answers the new used length; or 16 where the used length is
 // past the buffer, 10 to 15 of the used part, 13 where it is full, 15 with the count where the new
 // certificate is against the table, 16 where under 18 bytes are left.

@@ -2,7 +2,6 @@ use mathlib.Core.Bool.{not}
 use mathlib.Core.Path.{sym, ap, ◌∙◌}
 use native.Mathlib.Omega.{arith}
 use Rattle.wac.specs.File.{lowest_bad}
-use borrow.Author.Count.{below_more}
 use Rattle.wac.specs.Ranges.{record_ok}
 use Rattle.wac.proofs.Tests.{lowest_found}
 use Rattle.wac.proofs.RecordLaws.{first_kept}
@@ -15,7 +14,3 @@ returns-then-not-record_ok-clause-lowest c =
     (lowest_found _ _ c.loop-n.n (omega arith)
     (ap not (sym (c.record_ok.ensures ∙ ap record_ok c.record_at.ensures ∙ first_kept _) ∙ c.if-not-record_ok.true))
     c.loop-n.invariant)
-
-pub loop-n-preserved : goal.loop-n-preserved
-loop-n-preserved c =
-    below_more _ _ c.loop-n.invariant (ap not (sym (c.record_ok.ensures ∙ ap record_ok c.record_at.ensures ∙ first_kept _) ∙ c.if-not-record_ok.false))
