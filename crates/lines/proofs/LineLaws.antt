@@ -1,4 +1,4 @@
--- Laws about lines: what the pieces of each verdict's line come to.
+-- Laws about lines: a line ends within its bytes, so all of it is printed.
 use mathlib.Core.Path.{◌≡◌, refl, sym, ap, ◌∙◌}
 use mathlib.Core.List.{List}
 use Prim.Native.Nat.{ℕ, ◌≤◌, min}

@@ -1,7 +1,7 @@
 -- Laws about text: decimals, numbers as fields, and a piece copied to lent bytes.
 use mathlib.Core.Path.{◌≡◌, refl, ap, ◌∙◌}
 use mathlib.Core.Logic.{by_cases}
-use mathlib.Core.List.{List, [], ◌∷◌, ◌++◌, map, append_assoc, append-nil}
+use mathlib.Core.List.{List, [], ◌∷◌, ◌++◌, append_assoc, append-nil}
 use Prim.Native.Nat.{ℕ, zero, suc, ◌+◌, ◌*◌, ◌-◌, ◌/◌, ◌^◌, ◌≤◌, ◌<◌}
 use native.Mathlib.Nat.{pow-suc, pow-le-pow_right, le_trans}
 use native.Mathlib.Decide.{dec_le}
@@ -10,7 +10,6 @@ use borrow.Author.Tests.{lt-ltb, le-ltb}
 use lib.ListN.{length, take, drop, get_or, length-append, length-drop, length-take, drop_of_length-le}
 use lib.Seq.{drop-drop, take_all, take-length}
 use borrow.Rule.Slice.PartMut.{mid_of, put_mid}
-use Rattle.std.proofs.lemmas.List.{map-id}
 use Rattle.io.specs.Digits.{last_digits, IsDigitCount}
 use Rattle.lines.specs.Text.{places, decimal, fields}
 
@@ -96,10 +95,10 @@ fields_most j [] low = omega arith
 fields_most j (n ∷ ns) low = rw length-append (omega (arith, decimal_few j n low.0, fields_most j ns low.1))
 
 -- bytes as fields take at most 4 bytes each
-pub fields_bytes : (n : ℕ) (ns : List ℕ) → ((i : ℕ) → get_or ns i 0 < 256) → length (fields (map (λ (k : ℕ). k) (take n ns))) ≤ 4 * length ns
+pub fields_bytes : (n : ℕ) (ns : List ℕ) → ((i : ℕ) → get_or ns i 0 < 256) → length (fields (take n ns)) ≤ 4 * length ns
 fields_bytes n ns low =
-    rw (map-id (take n ns)) (le_trans (fields_most 2 (take n ns) (all_taken 1000 n ns (all_below_lem 1000 ns (λ i. omega (arith, low i)))))
-    (omega (arith, length-take n ns)))
+    le_trans (fields_most 2 (take n ns) (all_taken 1000 n ns (all_below_lem 1000 ns (λ i. omega (arith, low i)))))
+    (omega (arith, length-take n ns))
 
 -- a number of 64 bits has at most 20 digits
 pub decimal_most : (n : ℕ) → n < 18446744073709551616 → length (decimal n) ≤ 20

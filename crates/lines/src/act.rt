@@ -63,7 +63,7 @@ fn put_outcome(text: &mut Text, outcome: Outcome)
         Outcome::Quiet => {}
         Outcome::Note(entry) => {
             text.put_word(b" NOTE");
-            // No From leads from usize to u64.
+            // No From leads from usize to u64, and a TryFrom would have to be unwrapped.
             text.put_number(entry as u64);
         }
         Outcome::Nothing => text.put_word(b" NONE"),
@@ -89,10 +89,7 @@ fn act_text(a: &Site, b: &Site, outcome: Outcome) -> Text
 pub fn act_line(a: Site, b: Site, outcome: Outcome, out: &mut [u8]) -> Result<usize, NoRoom>
     ensures { Tells a b outcome out.old result out.new }
 {
-    if out.len() < Line::ROOM {
-        return Err(NoRoom);
-    }
-    Ok(act_text(&a, &b, outcome).put(out))
+    act_text(&a, &b, outcome).write(out)
 }
 
 // Why two sites were not opened.
@@ -121,8 +118,5 @@ fn opening_text(why: Unopened) -> Text
 pub fn opening_line(why: Unopened, out: &mut [u8]) -> Result<usize, NoRoom>
     ensures { Declines why out.old result out.new }
 {
-    if out.len() < Line::ROOM {
-        return Err(NoRoom);
-    }
-    Ok(opening_text(why).put(out))
+    opening_text(why).write(out)
 }

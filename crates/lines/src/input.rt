@@ -8,7 +8,8 @@ use crate::stream::Failed;
 use std::io::Read;
 
 // Reads until the lent bytes are full, the reader ends or a read fails. It is a loop over reads: what
-// the library's read_exact leaves after a failure is said nowhere, and the count has to hold then too.
+// the library's read_exact leaves after a failure is said nowhere, and the clause `count` has to hold
+// then too.
 fn fill<R: Read>(reader: &mut R, bytes: &mut [u8]) -> Result<usize, Failed>
     ensures count { IsPrefixLen (counted result) bytes.new }
     ensures consumed { Consumes (R.remaining reader.old) (R.remaining reader.new) (take (counted result) bytes.new) }
@@ -32,9 +33,9 @@ pub fn read_input(rt: &HostRuntime, bytes: &mut [u8]) -> Result<usize, Failed>
     ensures { IsPrefixLen (counted result) bytes.new }
 {
     let mut stdin = rt.stdin();
-    let count = fill(&mut stdin, bytes);
-    if count.is_err() {
+    let input = fill(&mut stdin, bytes);
+    if input.is_err() {
         let _ = rt.eprintln("standard input cannot be read");
     }
-    count
+    input
 }

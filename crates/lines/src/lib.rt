@@ -1,5 +1,5 @@
 // What the programs read and print. Each line is a value: a function writes it to the front of lent
-// bytes and gives its length.
+// bytes and gives its length. The bytes are lent and the length is given, since the programs have no heap.
 #![tactic(auto)]
 
 mod act;

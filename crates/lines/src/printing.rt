@@ -7,7 +7,7 @@ use crate::question::{Line, NoRoom, question_line};
 use crate::stream::Failed;
 
 // Writes a line that stands at the front of the lent bytes to standard output, and gives the length that
-// was handed over to be written, none of a line that was not made; where writing fails, it is told on
+// was handed over to be written, 0 for a line that was not made; where writing fails, it is told on
 // standard error. No contract can say what was written; what is said is how many of the bytes were handed
 // over.
 pub fn print(
@@ -17,9 +17,7 @@ pub fn print(
 ) -> Result<usize, Failed>
     ensures { counted result ≡ min (length_of lined) (length line.now) }
 {
-    let Ok(end) = lined else {
-        return Err(Failed { count: 0 });
-    };
+    let end = lined?;
     let count = end.min(line.len());
     if rt.write_all(&line[..count]).is_err() {
         let _ = rt.eprintln("standard output cannot be written");

@@ -9,10 +9,11 @@
 //   REFUSED number record
 #![tactic(auto, using(std::proofs::lemmas::Grind::common_steps, crate::proofs::TextLaws::decimal_most))]
 
-ghost use Rattle.std.specs.Prelude.{◌≡◌, [], ◌∷◌, ◌+◌, ◌≤◌, length, take};
+ghost use Rattle.std.specs.Prelude.{◌≡◌, ◌∷◌, ◌+◌, ◌≤◌, length, take};
 ghost use Rattle.wac.specs.Limits.{chain_places};
-ghost use Rattle.decision.specs.Question.{reply_of, refusal_number, refusal_record};
+ghost use Rattle.decision.specs.Question.{reply_of};
 ghost use Rattle.lines.specs.Question.{line_room, granted, line, line_of, Asks, Answers};
+ghost use Rattle.lines.specs.Act.{refused_text};
 
 use crate::text::Text;
 use decision::{Refused, Request, Verdict};
@@ -20,12 +21,9 @@ use wac::Table;
 
 // The numbers of a line are associated constants.
 #[derive(Clone, Copy)]
-pub struct Line {}
+pub struct Line;
 
 impl Line {
-    // How many bytes of a question stand before the file.
-    pub const REQUEST: usize = 7;
-
     // As many lent bytes as any line fits.
     pub const ROOM: usize = 1024;
 
@@ -42,7 +40,7 @@ fn granted_line(minute: u32, steps: u32, passes: u64, chain: &[u8]) -> Text
     requires { length chain.now ≤ chain_places }
     ensures { result ≡ line granted (minute ∷ steps ∷ passes ∷ take steps chain.now) }
 {
-    // No From leads from u32 to usize.
+    // No From leads from u32 to usize, and a TryFrom would have to be unwrapped.
     let count = (steps as usize).min(chain.len());
     let mut line = Text::new();
     line.put_word(b"GRANTED");
@@ -55,10 +53,10 @@ fn granted_line(minute: u32, steps: u32, passes: u64, chain: &[u8]) -> Text
 // The line of a refusal, after these words.
 pub(crate) fn refused_line(words: &[u8], why: Refused) -> Text
     requires { length words.now + 43 ≤ line_room }
-    ensures { result ≡ line words.now (refusal_number why ∷ refusal_record why ∷ []) }
+    ensures { result ≡ refused_text words.now why }
 {
     let number = u64::from(decision::refusal_number(why));
-    // No From leads from usize to u64.
+    // No From leads from usize to u64, and a TryFrom would have to be unwrapped.
     let record = decision::refusal_record(why) as u64;
     Text::line(words, &[number, record])
 }

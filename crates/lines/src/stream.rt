@@ -1,7 +1,19 @@
 // What reading and printing answer beside a count of bytes.
+ghost use Rattle.std.specs.Prelude.{◌≡◌};
 
-// A read or a write failed, after this many bytes were read or handed over.
+use crate::question::NoRoom;
+
+// A read or a write failed, or there was no line to write: this many bytes were read or handed over
+// before.
 #[derive(Clone, Copy)]
 pub struct Failed {
     pub count: usize,
+}
+
+impl From<NoRoom> for Failed {
+    ghost from_gives = { λ _ failed. failed.count ≡ 0 };
+
+    fn from(_: NoRoom) -> Failed {
+        Failed { count: 0 }
+    }
 }

@@ -2,8 +2,9 @@
 ghost use Rattle.std.specs.Prelude.{◌≡◌, ℕ, [], ◌∷◌, ◌++◌, ◌+◌, ◌≤◌, length, map};
 ghost use Rattle.lines.specs.Text.{field, fields, Put};
 ghost use Rattle.lines.specs.Question.{line_room, line};
+ghost use Rattle.lines.specs.Act.{Writes};
 
-use crate::question::Line;
+use crate::question::{Line, NoRoom};
 use std::marker::Model;
 
 // A number that can stand in a line. The library's Into relates a value to what it may become; a clause
@@ -32,8 +33,11 @@ impl Numeral for u64 {
     }
 }
 
-// What is written of a line: at most as many bytes as any line needs. No Display writes it: of that a
-// contract tells the bytes where writing went well, and not that it does, and each line fits.
+// What is written of a line: at most as many bytes as any line needs. No Display writes it: a Display's
+// contract tells the bytes only where writing went well, and `Answers`, `Tells` and `Declines` have the
+// line wherever 1,024 bytes are lent. No heap: its bytes are an array. No ArrayVec: put_word's three lines
+// would be a Result that has to be unwrapped, since each piece fits. Each piece asks for its own room,
+// which no fact about the text alone gives.
 #[derive(Drop)]
 pub(crate) struct Text {
     bytes: [u8; Line::ROOM],
@@ -116,5 +120,15 @@ impl Text {
     {
         out[..self.count].copy_from_slice(&self.bytes[..self.count]);
         self.count
+    }
+
+    // Writes the text to the front of any lent bytes, and gives its length.
+    pub(crate) fn write(&self, out: &mut [u8]) -> Result<usize, NoRoom>
+        ensures { Writes self.now out.old result out.new }
+    {
+        if out.len() < Line::ROOM {
+            return Err(NoRoom);
+        }
+        Ok(self.put(out))
     }
 }

@@ -1,7 +1,5 @@
--- `act_line` meets its contract: its text is put.
-use Rattle.std.proofs.Common.{refl, arith}
-use Rattle.lines.specs.Act.{written}
+-- `act_line` meets its contract: its text is written.
 use Rattle.lines.proofs.act.act_line.Goals as goal
 
 pub returns : goal.returns
-returns c = written (omega arith) _ (rw c.act_text.ensures at c.put.ensures) refl
+returns c = rw c.act_text.ensures at c.write.ensures
