@@ -38,50 +38,55 @@ fn word_at(bytes: &[u8; Table::RECORD], at: usize) -> u32
 }
 
 // The certificate that a record holds.
-#[tactic(auto, unfolding(crate::specs::Record::cert_from))]
-pub fn cert_from(bytes: &[u8; Table::RECORD]) -> Cert
-    ensures { result ≡ cert_from bytes.now }
-{
-    Cert {
-        kind: bytes[0],
-        issuer: bytes[1],
-        left: bytes[2],
-        subject: bytes[3],
-        count: bytes[4],
-        ids: Ids(bytes[5], bytes[6], bytes[7]),
-        mark: bytes[8],
-        rights: bytes[9],
-        not_before: word_at(bytes, 10),
-        not_after: word_at(bytes, 14),
+impl From<&[u8; Table::RECORD]> for Cert {
+    ghost from_gives = { λ bytes cert. cert ≡ cert_from bytes.now };
+
+    #[tactic(auto, unfolding(crate::specs::Record::cert_from))]
+    fn from(bytes: &[u8; Table::RECORD]) -> Cert {
+        Cert {
+            kind: bytes[0],
+            issuer: bytes[1],
+            left: bytes[2],
+            subject: bytes[3],
+            count: bytes[4],
+            ids: Ids(bytes[5], bytes[6], bytes[7]),
+            mark: bytes[8],
+            rights: bytes[9],
+            not_before: word_at(bytes, 10),
+            not_after: word_at(bytes, 14),
+        }
     }
 }
 
 // The 18 bytes of a certificate.
-pub fn bytes_of(cert: Cert) -> [u8; Table::RECORD]
-    ensures { result ≡ bytes_of cert }
-{
-    let begins = word_bytes(cert.not_before);
-    let ends = word_bytes(cert.not_after);
-    [
-        cert.kind,
-        cert.issuer,
-        cert.left,
-        cert.subject,
-        cert.count,
-        cert.ids.0,
-        cert.ids.1,
-        cert.ids.2,
-        cert.mark,
-        cert.rights,
-        begins[0],
-        begins[1],
-        begins[2],
-        begins[3],
-        ends[0],
-        ends[1],
-        ends[2],
-        ends[3],
-    ]
+impl From<Cert> for [u8; Table::RECORD] {
+    ghost from_gives = { λ cert bytes. bytes ≡ bytes_of cert };
+
+    #[tactic(auto, unfolding(crate::specs::Record::bytes_of))]
+    fn from(cert: Cert) -> [u8; Table::RECORD] {
+        let [b0, b1, b2, b3] = word_bytes(cert.not_before);
+        let [e0, e1, e2, e3] = word_bytes(cert.not_after);
+        [
+            cert.kind,
+            cert.issuer,
+            cert.left,
+            cert.subject,
+            cert.count,
+            cert.ids.0,
+            cert.ids.1,
+            cert.ids.2,
+            cert.mark,
+            cert.rights,
+            b0,
+            b1,
+            b2,
+            b3,
+            e0,
+            e1,
+            e2,
+            e3,
+        ]
+    }
 }
 
 // Writes the 18 bytes of a record at `at`, and no others.

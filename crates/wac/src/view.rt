@@ -8,7 +8,7 @@ ghost use Rattle.wac.specs.View.{number_cases, ReadAlone, ViewOf, FetchedBy, Fet
 
 use crate::cert::Cert;
 use crate::refusal::Refusal;
-use crate::{cert, file, record};
+use crate::{file, record};
 
 // Record n alone, of a file whose frame is in order and has this count.
 #[tactic(auto, using(crate::proofs::RecordLaws::first_kept, crate::proofs::RecordLaws::first_cert), unfolding(crate::specs::View::number_cases, crate::specs::Answers::first_of, crate::specs::File::cert_at))]
@@ -23,7 +23,7 @@ fn record_below(file: &[u8], count: usize, n: usize) -> Result<Cert, Refusal>
     if !record::record_ok(&record) {
         return Err(Refusal::Against(n));
     }
-    Ok(cert::cert_from(&record))
+    Ok(Cert::from(&record))
 }
 
 // Record n alone, in constant time: its certificate; or 10 to 14 by the frame, 24 where the number is

@@ -15,7 +15,7 @@ use crate::{cert, file, record};
 fn cert_ok(cert: Cert) -> bool
     ensures { result ≡ record_ok (bytes_of cert) }
 {
-    record::record_ok(&cert::bytes_of(cert))
+    record::record_ok(&<[u8; Table::RECORD]>::from(cert))
 }
 
 // The answer where the used part is a file with this count: full, the new certificate, room.
@@ -59,6 +59,6 @@ pub fn append(buffer: &mut [u8], used: usize, cert: Cert) -> Result<usize, Refus
 {
     let next = answer(buffer, used, cert)?;
     buffer[5] += 1;
-    cert::write_at(buffer, used, cert::bytes_of(cert));
+    cert::write_at(buffer, used, cert.into());
     Ok(next)
 }

@@ -40,6 +40,6 @@ returns c =
       answer = c.in_ok-next.ensures;
       buffer =
           c.write_at.ensures
-          ∙ ap (λ bytes. paste (set b 5 (get_or b 5 0 + 1)) used bytes 18) c.bytes_of.ensures
+          ∙ ap (λ bytes. paste (set b 5 (get_or b 5 0 + 1)) used bytes 18) c.into.ensures
           ∙ ap (λ a. left a b used cert) c.in_ok-next.ensures;
     }
