@@ -3,6 +3,9 @@
 //
 // An answer is one number: a refusal's number times 65,536 and the value that comes with it. The
 // number is 0 where the call is not refused. The decision's verdicts are wider: see `questions`.
+//
+// C calls these functions through `boundary_c`: so requests and certificates come as single numbers, an
+// answer is a number and no Result, and each function has a name of its own in boundary.h.
 #![tactic(auto)]
 
 mod questions;
@@ -13,7 +16,7 @@ ghost use Rattle.wac.specs.File.{file_cases, count_of};
 ghost use Rattle.boundary.specs.Coded.{code, coded, cert_of, fields, fields_of, FetchCoded, AppendCoded};
 
 pub use questions::{decision_ask, decision_may, decision_settle, decision_short, decision_stock};
-use wac::{Cert, Ids, Refusal};
+use wac::{Cert, Ids, Refusal, View};
 
 // How many fields a certificate has.
 const FIELDS: usize = 12;
@@ -22,7 +25,8 @@ const FIELDS: usize = 12;
 fn code_of(number: u8, value: usize) -> u32
     ensures { result ≡ code number value }
 {
-    number as u32 * 65536 + (value % 65536) as u32
+    // No From leads from usize to u32.
+    u32::from(number) * 65536 + (value % 65536) as u32
 }
 
 // A refusal as one number.
@@ -33,7 +37,7 @@ fn refusal_code(why: Refusal) -> u32
 }
 
 // A number or a refusal as one number.
-fn answer_code(answer: Result<usize, Refusal>) -> u32
+fn coded(answer: Result<usize, Refusal>) -> u32
     ensures { result ≡ coded (comes_back answer) }
 {
     match answer {
@@ -46,7 +50,7 @@ fn answer_code(answer: Result<usize, Refusal>) -> u32
 pub fn wac_check(file: &[u8]) -> u32
     ensures { result ≡ coded (first_of (file_cases file.now) (count_of file.now)) }
 {
-    answer_code(wac::check(file))
+    coded(wac::check(file))
 }
 
 // What a view of the file counts, which is what its check finds: the count, or 10 to 15.
@@ -84,18 +88,19 @@ fn fill(lent: &mut [u32], cert: Cert)
     lent[..FIELDS].copy_from_slice(&fields_of(cert));
 }
 
-// `wac::fetch_in`: certificate n, its fields in the first 12 lent places; or 10 to 15 as `wac_check`,
+// Certificate n by a view of the file, its fields in the first 12 lent places; or 10 to 15 as `wac_check`,
 // 23 where under 12 places are lent, 24. A refused call writes nothing.
 pub fn wac_fetch(file: &[u8], n: usize, lent: &mut [u32]) -> u32
     ensures { FetchCoded file.now n lent.old result lent.new }
 {
-    if let Err(why) = wac::check(file) {
+    let view = View::of(file);
+    if let Err(why) = view.count() {
         return refusal_code(why);
     }
     if lent.len() < FIELDS {
         return code_of(23, 0);
     }
-    match wac::fetch_in(file, n) {
+    match view.fetch(n) {
         Ok(cert) => {
             fill(lent, cert);
             code_of(0, 0)
@@ -123,18 +128,17 @@ pub fn wac_append(
 ) -> u32
     ensures { AppendCoded buffer.old used (cert_of kind issuer left subject count first second third mark rights not_before not_after) result buffer.new }
 {
-    let ids = Ids(first, second, third);
     let cert = Cert {
         kind,
         issuer,
         left,
         subject,
         count,
-        ids,
+        ids: Ids(first, second, third),
         mark,
         rights,
         not_before,
         not_after,
     };
-    answer_code(wac::append(buffer, used, cert))
+    coded(wac::append(buffer, used, cert))
 }

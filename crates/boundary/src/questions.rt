@@ -32,20 +32,25 @@ const NUMBER: u64 = 72057594037927936;
 fn wide_code(number: u8, steps: u32, passes: u64, minute: u64) -> u64
     ensures { result ≡ wide_code number steps passes minute }
 {
-    number as u64 * NUMBER
-        + (steps % 256) as u64 * STEPS
+    u64::from(number) * NUMBER
+        + u64::from(steps % 256) * STEPS
         + passes % 65536 * PASSES
         + minute % PASSES
 }
 
-// A verdict as one number.
+// A verdict as one number. No From leads from a record's usize to u64.
 fn verdict_code(verdict: Result<Verdict, Refused>) -> u64
     ensures { result ≡ verdict_code verdict }
 {
     match verdict {
-        Ok(Verdict::Granted(minute, steps, passes)) => wide_code(0, steps, passes, minute as u64),
+        Ok(Verdict::Granted(minute, steps, passes)) => wide_code(
+            0,
+            steps,
+            passes,
+            u64::from(minute),
+        ),
         Ok(Verdict::NoChain(passes)) => wide_code(1, 0, passes, 0),
-        Ok(Verdict::GrantedLong(minute, passes)) => wide_code(2, 0, passes, minute as u64),
+        Ok(Verdict::GrantedLong(minute, passes)) => wide_code(2, 0, passes, u64::from(minute)),
         Err(why) => wide_code(
             decision::refusal_number(why),
             0,
@@ -65,7 +70,8 @@ fn shown_code(shown: Result<bool, u8>) -> u32
     }
 }
 
-// The sum of 2^k over the keys k that get yes, from the last key to the first.
+// The sum of 2^k over the keys k that get yes, from the last key to the first. By key and not over the
+// list turned round: the sum so far is said of the keys from `key` on (`bits`), and such a walk names none.
 fn bits_of(list: &[bool; Table::KEYS]) -> usize
     ensures { result ≡ bits list.now 0 keys }
 {
@@ -90,10 +96,10 @@ fn stocked_code(list: Result<[bool; Table::KEYS], u8>) -> u32
 fn long_code(number: u8, value: u64) -> u64
     ensures { result ≡ long_code number value }
 {
-    number as u64 * NUMBER + value % NUMBER
+    u64::from(number) * NUMBER + value % NUMBER
 }
 
-// What settling answers, as one number.
+// What settling answers, as one number. No From leads from a record's usize to u64.
 fn settling_code(settling: Result<u64, Refused>) -> u64
     ensures { result ≡ settling_code (answered_as settling) }
 {

@@ -1,4 +1,4 @@
--- `wac_fetch` meets its contract: what `wac::check` refuses, the lent places, then what `wac::fetch_in` answers.
+-- `wac_fetch` meets its contract: what the view's check refuses, the lent places, then what the view fetches.
 use mathlib.Core.Path.{◌≡◌, sym, ap, ◌∙◌}
 use mathlib.Core.List.{List, []}
 use Prim.Native.Nat.{ℕ, ◌<◌, ◌≤◌}
@@ -7,6 +7,7 @@ use Rattle.boundary.specs.Coded.{fields, lent_cases, cert_coded, filled}
 use Rattle.wac.specs.Answers.{gives, refuses, first_of, comes_back}
 use Rattle.wac.specs.File.{count_of, cert_at, file_cases}
 use Rattle.wac.specs.View.{fetch_cases}
+use Rattle.wac.proofs.ViewLaws.{view_counts, view_fetches}
 use Rattle.wac.proofs.Cases.{first_holds, first_fails, first_refused, first_given}
 use Rattle.boundary.proofs.wac_fetch.Goals as goal
 
@@ -32,25 +33,29 @@ module _ (s : List ℕ) (n places : ℕ) where
 pub returns-in-Err : goal.returns-in-Err
 returns-in-Err c =
     let lent = c.args.lent.now in
-    let found = lent-refused _ _ _ (sym c.check.ensures ∙ ap comes_back c.in-Err.is) in
+    let refused = sym (view_counts _ _ c.of-view.ensures c.count.result c.count.ensures) ∙ ap comes_back c.in-Err.is in
+    let found = lent-refused _ _ _ refused in
     record { answer = c.refusal_code.ensures ∙ sym (ap cert_coded found); places = sym (ap (λ a. filled a lent) found) }
 
 pub returns-then-lent-lt-FIELDS : goal.returns-then-lent-lt-FIELDS
 returns-then-lent-lt-FIELDS c =
     let lent = c.args.lent.now in
-    let found = lent-few _ _ _ (sym c.check.ensures ∙ ap comes_back c.in_default.is) c.if-lent-lt-FIELDS.true in
+    let accepted = sym (view_counts _ _ c.of-view.ensures c.count.result c.count.ensures) ∙ ap comes_back c.in_default.is in
+    let found = lent-few _ _ _ accepted c.if-lent-lt-FIELDS.true in
     record { answer = c.code_of.ensures ∙ sym (ap cert_coded found); places = sym (ap (λ a. filled a lent) found) }
 
 pub returns-in-Ok : goal.returns-in-Ok
 returns-in-Ok c =
     let lent = c.args.lent.now in
-    let accepted = sym c.check.ensures ∙ ap comes_back c.in_default.is in
-    let found = lent-fetched _ _ _ accepted c.if-lent-lt-FIELDS.false ∙ sym c.fetch_in.ensures.answer ∙ ap comes_back c.in-Ok.is in
+    let accepted = sym (view_counts _ _ c.of-view.ensures c.count.result c.count.ensures) ∙ ap comes_back c.in_default.is in
+    let fetched = (view_fetches _ _ c.of-view.ensures c.args.n c.fetch.result c.fetch.ensures).answer in
+    let found = lent-fetched _ _ _ accepted c.if-lent-lt-FIELDS.false ∙ sym fetched ∙ ap comes_back c.in-Ok.is in
     record { answer = c.code_of-in-Ok.ensures ∙ sym (ap cert_coded found); places = c.fill.ensures ∙ sym (ap (λ a. filled a lent) found) }
 
-pub returns-in-Err-fetch_in : goal.returns-in-Err-fetch_in
-returns-in-Err-fetch_in c =
+pub returns-in-Err-fetch : goal.returns-in-Err-fetch
+returns-in-Err-fetch c =
     let lent = c.args.lent.now in
-    let accepted = sym c.check.ensures ∙ ap comes_back c.in_default.is in
-    let found = lent-fetched _ _ _ accepted c.if-lent-lt-FIELDS.false ∙ sym c.fetch_in.ensures.answer ∙ ap comes_back c.in-Err-fetch_in.is in
-    record { answer = c.refusal_code-in-Err-fetch_in.ensures ∙ sym (ap cert_coded found); places = sym (ap (λ a. filled a lent) found) }
+    let accepted = sym (view_counts _ _ c.of-view.ensures c.count.result c.count.ensures) ∙ ap comes_back c.in_default.is in
+    let fetched = (view_fetches _ _ c.of-view.ensures c.args.n c.fetch.result c.fetch.ensures).answer in
+    let found = lent-fetched _ _ _ accepted c.if-lent-lt-FIELDS.false ∙ sym fetched ∙ ap comes_back c.in-Err-fetch.is in
+    record { answer = c.refusal_code-in-Err-fetch.ensures ∙ sym (ap cert_coded found); places = sym (ap (λ a. filled a lent) found) }
