@@ -3,8 +3,8 @@
 // read or a write that fails.
 #![tactic(auto)]
 
-// Fills the lent bytes from standard input, where it has as many. `exchange` has the same: a common one would be
-// public in `lines`, and no contract could say which bytes it reads.
+// Fills the lent bytes from standard input, where it has as many. `exchange` has the same: a common one
+// would be public in `lines`, and no contract could say which bytes it reads.
 fn fill(rt: &HostRuntime, bytes: &mut [u8]) -> Option<()> {
     match lines::read_input(rt, bytes) {
         Ok(count) if count == bytes.len() => Some(()),

@@ -21,9 +21,10 @@ use crate::mail;
 use lines::Outcome;
 use sites::{Note, NoteKind, NoteRefused, Site, Taking};
 
-// The two sites, and how many notes of each are kept. The counts stand beside the sites: `swapped_desk` and
-// `with_first` name the four fields. A desk is given back and is no `&mut`: `Worked`, `Wrote`, `Brought`, `PassedOn`,
-// `Exchanged`, `HalfDone` and `FullDone` speak of a desk and of the one after it.
+// The two sites, and how many notes of each are kept. The counts stand beside the sites: `swapped_desk`
+// and `with_first` name the four fields. A desk is given back and is no `&mut`: `Worked`, `Wrote`,
+// `Brought`, `PassedOn`, `Exchanged`, `HalfDone` and `FullDone` speak of a desk and of the one after
+// it.
 #[derive(Clone, Copy)]
 pub struct Desk {
     pub first: Site,
@@ -61,8 +62,8 @@ pub struct Delivery {
     pub receipt: [u8; Note::BYTES],
 }
 
-// The next note that a site has to send from an entry on, if it has one. The room that is lent is that of
-// a note, so the site never refuses.
+// The next note that a site has to send from an entry on, if it has one. The room that is lent is that
+// of a note, so the site never refuses.
 fn next_note(site: &Site, from: usize) -> Option<Written>
     ensures { NextNote site.now from result }
 {
@@ -210,7 +211,8 @@ impl Desk {
         })
     }
 
-    // One half of a full exchange: the first site works and sends all its notes, and the receipts are taken.
+    // One half of a full exchange: the first site works and sends all its notes, and the receipts are
+    // taken.
     pub fn half(self, first: &mut [u8], second: &mut [u8]) -> Desk
         ensures { HalfDone self result }
     {

@@ -1,10 +1,10 @@
 // The notes and receipts that a side wrote, in the order written: 12 bytes each, as many as there is
 // room for. What is written past that is lost.
 //
-// The bytes are lent beside their count. A struct of both that lends them would have to say in the clause
-// of each act that it still lends the same bytes; one that holds them could be lent no other bytes, and
-// `Keeps` (the clause of `keep`), `Wrote`, `Brought` and `PassedOn` (docs/PROOFS.md) speak of lent bytes of
-// any length.
+// The bytes are lent beside their count. A struct of both that lends them would have to say in the
+// clause of each act that it still lends the same bytes; one that holds them could be lent no other
+// bytes, and `Keeps` (the clause of `keep`), `Wrote`, `Brought` and `PassedOn` (docs/PROOFS.md) speak
+// of lent bytes of any length.
 ghost use Rattle.std.specs.Prelude.{◌≡◌, ◌*◌, true, false, MatchOption};
 ghost use Rattle.sites.specs.Notes.{note_length};
 ghost use Rattle.exchange.specs.Mail.{has_room, kept_at, Keeps};

@@ -30,8 +30,8 @@ const HEAD: usize = 11;
 // More bytes than the length of a file can say.
 const FILE: usize = 65536;
 
-// Fills the lent bytes from standard input, where it has as many. `cases` has the same: a common one would be
-// public in `lines`, and no contract could say which bytes it reads.
+// Fills the lent bytes from standard input, where it has as many. `cases` has the same: a common one
+// would be public in `lines`, and no contract could say which bytes it reads.
 fn fill(rt: &HostRuntime, bytes: &mut [u8]) -> Option<()> {
     match lines::read_input(rt, bytes) {
         Ok(count) if count == bytes.len() => Some(()),
@@ -113,8 +113,8 @@ fn act_first(
     Some(done)
 }
 
-// The next act, where there is one of that number and it stands whole on standard input: the even ones are A's,
-// the odd ones B's.
+// The next act, where there is one of that number and it stands whole on standard input: the even ones
+// are A's, the odd ones B's.
 fn next_act(rt: &HostRuntime, desk: Desk, a: &mut [u8], b: &mut [u8]) -> Option<Done> {
     let [byte] = read_bytes::<1>(rt)?;
     let act = Act::try_from(byte / 2).ok()?;
@@ -143,9 +143,9 @@ fn declines(rt: &(impl Print + Eprint), why: Unopened) {
     let _ = lines::print(rt, lined, &line);
 }
 
-// The acts, until the input ends, a number stands for no act, an act does not stand there whole or a line cannot
-// be printed. A proved loop has to end, and nothing says that the input does: the loop counts its turns, to a
-// number that no run uses up.
+// The acts, until the input ends, a number stands for no act, an act does not stand there whole or a
+// line cannot be printed. A proved loop has to end, and nothing says that the input does: the loop
+// counts its turns, to a number that no run uses up.
 fn run(rt: &HostRuntime, mut desk: Desk) {
     let mut a_notes = [0; mail::BYTES];
     let mut b_notes = [0; mail::BYTES];

@@ -31,13 +31,14 @@ use wac::Table;
 // A site.
 #[derive(Clone, Copy)]
 pub struct Site {
-    // The bytes of its file, and how many of them there are: an array with a length beside it, since memory is
-    // fixed, and `opened_site` and `file_of` name both.
+    // The bytes of its file, and how many of them there are: an array with a length beside it, since
+    // memory is fixed, and `opened_site` and `file_of` name both.
     file: [u8; Table::LARGEST],
     used: usize,
     request: Request,
     session: u32,
-    // It was opened: a flag, since a refused opening has a site too (`blank_site`), which works and takes notes.
+    // It was opened: a flag, since a refused opening has a site too (`blank_site`), which works and
+    // takes notes.
     live: bool,
     // Two tables and no table of pairs: `settle` passes over the minutes alone.
     minutes: [u32; Table::ENTRIES],
@@ -46,8 +47,9 @@ pub struct Site {
     idle: bool,
 }
 
-// An opening: the answer, and the site, blank where it is refused. The site stands beside the answer, since `Opens`
-// says which site a refused opening has, and `blank_works` and `blank_takes` what becomes of it.
+// An opening: the answer, and the site, blank where it is refused. The site stands beside the answer,
+// since `Opens` says which site a refused opening has, and `blank_works` and `blank_takes` what becomes
+// of it.
 #[derive(Clone, Copy)]
 pub struct Opening {
     pub answer: Result<(), Refused>,
@@ -67,8 +69,8 @@ pub enum NoteRefused {
     Later,
 }
 
-// The refusal's number: a function, since docs/PROOFS.md names it, and `u8::from(why)` would not say which number
-// of it.
+// The refusal's number: a function, since docs/PROOFS.md names it, and `u8::from(why)` would not say
+// which number of it.
 pub fn note_refusal_number(why: NoteRefused) -> u8
     ensures { result ≡ note_number why }
 {
@@ -80,25 +82,27 @@ pub fn note_refusal_number(why: NoteRefused) -> u8
     }
 }
 
-// A note taken: the answer, the note's kind or why it is refused, and the site after it. The site stands beside the
-// answer, and is no `&mut`: `Takes` and `Act` speak of a site and of the one after it.
+// A note taken: the answer, the note's kind or why it is refused, and the site after it. The site
+// stands beside the answer, and is no `&mut`: `Takes` and `Act` speak of a site and of the one after
+// it.
 #[derive(Clone, Copy)]
 pub struct Taking {
     pub answer: Result<NoteKind, NoteRefused>,
     pub site: Site,
 }
 
-// What a site shows: a flag beside the minute, since the theorems on two sites name both (`rest_agrees` the minute,
-// `granted_chain` and `exchanges_agree` the flag).
+// What a site shows: a flag beside the minute, since the theorems on two sites name both (`rest_agrees`
+// the minute, `granted_chain` and `exchanges_agree` the flag).
 #[derive(Clone, Copy)]
 pub struct Showing {
     pub minute: u32,
     pub granted: bool,
 }
 
-// The minutes at the start: without end at the asker's two marks, none elsewhere. `decision` writes the same start
-// (`Inquiry::start_by`), but for a question in order, which only it makes; made public for a bare key it would have
-// to ask for one below 16, and no public function asks anything (README, "Any bytes and any numbers").
+// The minutes at the start: without end at the asker's two marks, none elsewhere. `decision` writes the
+// same start (`Inquiry::start_by`), but for a question in order, which only it makes; made public for a
+// bare key it would have to ask for one below 16, and no public function asks anything (README, "Any
+// bytes and any numbers").
 fn start_minutes(asker: usize) -> [u32; Table::ENTRIES]
     requires { asker < keys }
     ensures { result ≡ start_of asker }
@@ -204,10 +208,10 @@ impl Site {
         }
     }
 
-    // A raise: the entry's minute and receipted minute become the greater; if its minute rose, the site must work
-    // again. An entry's number is a plain number in this crate, here, in `receipt_at`, `raise_of`, `entry_at` and
-    // `Note::entry`: a type for one that exists would be unwrapped at each indexing, where the `requires` is one
-    // comparison, met by the function that gave the number.
+    // A raise: the entry's minute and receipted minute become the greater; if its minute rose, the site
+    // must work again. An entry's number is a plain number in this crate, here, in `receipt_at`,
+    // `raise_of`, `entry_at` and `Note::entry`: a type for one that exists would be unwrapped at each
+    // indexing, where the `requires` is one comparison, met by the function that gave the number.
     fn raise_at(self, entry: usize, minute: u32) -> Site
         requires { entry < entries }
         ensures { result ≡ raised_site self entry minute }
@@ -234,8 +238,8 @@ impl Site {
         told
     }
 
-    // What becomes of a note, before anything changes: the first refusal in document 01's order (room, form,
-    // session, later), or the note that is taken.
+    // What becomes of a note, before anything changes: the first refusal in document 01's order (room,
+    // form, session, later), or the note that is taken.
     fn answer_for(&self, bytes: &[u8], room: usize) -> Result<Note, NoteRefused>
         ensures { MatchResult result
             (λ said. (said ≡ note_from bytes.now) × (first_of (note_cases self.now bytes.now room) said.kind ≡ gives said.kind))
@@ -316,8 +320,8 @@ impl Site {
         }
     }
 
-    // The next note to send, from a given entry number on, is written to the first 12 lent bytes; the one refusal
-    // is `Room`.
+    // The next note to send, from a given entry number on, is written to the first 12 lent bytes; the
+    // one refusal is `Room`.
     pub fn next(&self, from: usize, bytes: &mut [u8]) -> Result<Option<usize>, NoteRefused>
         ensures { Sends self.now from bytes.old result bytes.new }
     {
@@ -329,8 +333,8 @@ impl Site {
         Ok(due)
     }
 
-    // Rest: the site has worked since it was opened and since the last rise, and no entry's minute is above
-    // its receipted minute.
+    // Rest: the site has worked since it was opened and since the last rise, and no entry's minute is
+    // above its receipted minute.
     pub fn rests(&self) -> bool
         ensures { result ≡ restful self.now }
     {
