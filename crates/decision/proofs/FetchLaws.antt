@@ -1,12 +1,11 @@
 -- Laws of reading a record of an accepted file: it is the certificate of that number, which is lawful.
-use mathlib.Core.Path.{◌≡◌, sym, ap, ◌∙◌, subst}
+use mathlib.Core.Path.{◌≡◌, sym, ap, ◌∙◌}
 use mathlib.Core.List.{List}
 use Prim.Native.Nat.{ℕ, ◌<◌}
 use Rattle.std.specs.Prelude.{Result, Ok, Err}
 use Rattle.wac.specs.Answers.{gives, comes_back}
-use Rattle.wac.specs.Record.{Lawful}
 use Rattle.wac.specs.File.{count_of, cert_at}
-use Rattle.wac.specs.View.{InRanges, ReadAlone}
+use Rattle.wac.specs.View.{ReadAlone}
 use Rattle.wac.specs.declared.cert.Cert.{Cert}
 use Rattle.wac.specs.declared.refusal.Refusal.{Refusal}
 use Rattle.wac.proofs.Cases.{gives_injective, gives_not_refuses}

@@ -16,7 +16,7 @@ use Rattle.wac.specs.Record.{Lawful}
 use Rattle.wac.specs.File.{count_of, cert_at}
 use Rattle.wac.specs.declared.cert.Cert.{Cert}
 use Rattle.wac.proofs.Tests.{and_both}
-use Rattle.rewriting.specs.Weighing.{Weighing, minutes, steps}
+use Rattle.rewriting.specs.Weighing.{minutes, steps}
 use Rattle.rewriting.specs.Rewriting.{Rules, Question}
 use Rattle.rewriting.specs.Entries.{Mark}
 use Rattle.rewriting.specs.Passes.{start, reading, brought, fires, tried, pass}

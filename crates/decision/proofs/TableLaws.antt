@@ -5,12 +5,11 @@ use mathlib.Core.Logic.{◌⊎◌, inl, inr, ⊎_elim, by_cases}
 use mathlib.Core.List.{List}
 use Prim.Native.Nat.{ℕ, ◌+◌, ◌-◌, ◌*◌, ◌/◌, ◌%◌, ◌<◌, ◌≤◌}
 use native.Mathlib.Omega.{arith}
-use native.Mathlib.Numerals.{add-one}
 use native.Mathlib.Decide.{ℕ_discrete}
 use borrow.Author.Tests.{ltb-true, ltb-false, leb-true, eqb-true, lt-ltb, le-ltb, le-leb, eq-eqb}
 use lib.Dec.{leb, ltb, eqb}
 use lib.ListN.{length, get_or, take, drop, set}
-use lib.Seq.{length-take-le, get_or-take, get_or-drop, ext_get_or, take-suc, take-suc-set, get_or-set_same, get_or-set_other}
+use lib.Seq.{length-take-le, get_or-take, get_or-drop, ext_get_or, get_or-set_same, get_or-set_other}
 use Rattle.std.specs.Prelude.{Option, Some, None}
 use Rattle.std.specs.Option.{unwrap_or}
 use Rattle.wac.specs.Limits.{keys, identifiers, access, end_place, named_entries, entries}

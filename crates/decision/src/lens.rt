@@ -17,7 +17,7 @@ pub enum Lens {
 impl Lens {
     // What an entry weighs that no chain of at most 200 steps brings about. No From leads from usize to
     // u32, and a constant calls no TryFrom: `as`.
-    const UNCOUNTED: u32 = Table::CHAIN_PLACES as u32 + 1;
+    pub const UNCOUNTED: u32 = Table::CHAIN_PLACES as u32 + 1;
 
     // No weight.
     pub fn none(self) -> u32

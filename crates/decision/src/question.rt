@@ -64,19 +64,20 @@ pub enum Verdict {
 }
 
 // The request's refusals.
+#[tactic(auto, unfolding(crate::specs::Question::request_cases, wac::specs::Answers::first_of))]
 fn admit_request(request: Request) -> Result<(), Refused>
     ensures { answered_as result ≡ first_of (request_cases request) tt }
 {
-    if Table::KEYS <= request.owner as usize {
+    if Table::KEYS <= usize::from(request.owner) {
         return Err(Refused::Keys);
     }
-    if Table::KEYS <= request.asker as usize {
+    if Table::KEYS <= usize::from(request.asker) {
         return Err(Refused::Keys);
     }
     if request.rights == 0 {
         return Err(Refused::Rights);
     }
-    if Table::ALL_RIGHTS < request.rights as usize {
+    if Table::ALL_RIGHTS < usize::from(request.rights) {
         return Err(Refused::Rights);
     }
     if request.at == 0 {
@@ -126,7 +127,7 @@ fn judge_steps(
     };
     let entry = owner_entry(inquiry.request);
     let fewest = last.steps_at(entry);
-    if (Table::CHAIN_PLACES as u32) < fewest {
+    if Lens::UNCOUNTED <= fewest {
         return Verdict::GrantedLong(minute, passes);
     }
     last.expand_entry(chain, 0, entry);
@@ -147,13 +148,14 @@ fn judge(inquiry: Inquiry<'_>, minutes: &mut [u32], steps: &mut [u32], chain: &m
     };
     let minute = settled.weight_at(owner_entry(inquiry.request));
     if minute == 0 {
-        passing::fill(steps, Table::CHAIN_PLACES as u32 + 1);
+        passing::fill(steps, Lens::UNCOUNTED);
         return Verdict::NoChain(passes);
     }
     judge_steps(inquiry, minute, passes, steps, chain)
 }
 
-// The question. Any bytes and any numbers; a refused call leaves every lent place as it was.
+// The question. Any bytes and any numbers; a refused call leaves every lent place as it was. The lent
+// places are three and no struct, as C lends them: `Judged` says of each what it held and what it holds.
 pub fn ask(
     file: &[u8],
     request: Request,
@@ -208,8 +210,9 @@ pub fn ask_short(
     ask(file, request, minutes, steps, chain)
 }
 
-// The read screen: a yes or no for one asker, by the short form. Yes is answer 0 or 2. A refusal is told
-// by its number alone (`Shows`), so it is no `Refused`, which may have a record.
+// The read screen: a yes or no for one asker, by the short form. Yes is answer 0 or 2. The error is the
+// refusal's number alone and no `Refused`, which may have a record: `Shows` says nothing of a record, and by
+// `shows_unique` it says all that comes back.
 pub fn may(file: &[u8], owner: u8, asker: u8, at: u32) -> Result<bool, u8>
     ensures { Shows file.now (request_of owner asker 2 at) (shown_as result) }
 {
@@ -225,7 +228,7 @@ pub fn may(file: &[u8], owner: u8, asker: u8, at: u32) -> Result<bool, u8>
 }
 
 // The stock list of an owner at a minute, by the short form: a yes or no for each of the 16 keys, or the
-// refusal's number, as the read screen tells it.
+// refusal's number, as the read screen tells it (`stocks_unique`). No From leads from usize to a byte.
 pub fn stock(file: &[u8], owner: u8, at: u32) -> Result<[bool; Table::KEYS], u8>
     ensures { Stocks file.now owner at result }
 {
@@ -253,7 +256,7 @@ pub fn settle(file: &[u8], request: Request, table: &mut [u32]) -> Result<u64, R
     Ok(inquiry.settle_by(Lens::Minutes, table))
 }
 
-// The refusal's number.
+// The refusal's number. A function and no From: a refusal has two numbers, this and its record's.
 pub fn refusal_number(why: Refused) -> u8
     ensures { result ≡ refusal_number why }
 {
