@@ -60,7 +60,8 @@ fn verdict_code(verdict: Result<Verdict, Refused>) -> u64
     }
 }
 
-// What the read screen shows, as one number.
+// What the read screen shows, as one number. This and `stocked_code` are two and no generic one: each value
+// becomes a number in its own way, and a trait for that would be longer than both.
 fn shown_code(shown: Result<bool, u8>) -> u32
     ensures { result ≡ shown_code (shown_as shown) }
 {

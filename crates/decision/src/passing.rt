@@ -1,4 +1,7 @@
 // Passes over a table, certificates outside and arrivals inside, until nothing changes.
+//
+// The row that is written stays a lent slice with its fact in each contract (`Within`), and is no struct as
+// `Row` is: one that holds it lent would have to say in each clause that it still lends the same places.
 ghost use Rattle.std.specs.Prelude.{◌≡◌, true, ◌≤◌, length, get_or, take, drop, replicate, slice_set};
 ghost use Rattle.wac.specs.Limits.{entries};
 ghost use Rattle.wac.specs.Record.{Lawful};

@@ -66,7 +66,7 @@ impl Table {
     pub const LARGEST: usize = Table::HEADER + Table::RECORD * Table::CERTIFICATES;
 }
 
-// The constants, in order.
+// The constants, in order. No From leads from u32 to usize.
 pub fn table_limits() -> [usize; 19]
     ensures { result ≡ limits }
 {
