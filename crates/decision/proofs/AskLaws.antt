@@ -182,6 +182,10 @@ module _ (s : List ℕ) (q : Request) (m m' t t' c c' : List ℕ) (m-long : entr
   verdict_shown (answered case (granted W N some best held rest)) = Shows.yes (sym no_places ∙ case) best.chain best.leads (shown_counted rest)
   verdict_shown {r} (answered case (denied N no-chain held all beyond same e)) = Shows.no (sym no_places ∙ case) no-chain (shown_by r _ e)
 
+  -- so is what it makes of a verdict that is the same
+  pub verdict_screen : {r r' : Result Verdict Refused} → Judged s q r m m' t t' c c' → r ≡ r' → Shows s q (shown_as (shown_of r'))
+  verdict_screen j e = subst (λ x. Shows s q (shown_as (shown_of x))) e (verdict_shown j)
+
 -- what the read screen shows on a refusal is the question's
 pub shown_refused : {s : List ℕ} {q : Request} {n : ℕ} → Shows s q (refuses n []) → (vs : List ℕ) × (first_of (file_cases s ++ request_cases q) (count_of s) ≡ refuses n vs)
 shown_refused (Shows.refused n vs case e) = (vs, cc)

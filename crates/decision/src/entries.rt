@@ -6,7 +6,8 @@ ghost use Rattle.decision.specs.Table.{is_entry, arrivals_of, number, NumberOf};
 use std::ops::Range;
 use wac::Table;
 
-// An entry: a key reads a symbol and arrives at a place.
+// An entry: a key reads a symbol and arrives at a place. Numbers and no enums: `entry_number` takes any three,
+// and `is_entry` says which of them name an entry.
 #[derive(Clone, Copy)]
 pub struct Entry {
     pub key: usize,
@@ -27,8 +28,8 @@ pub fn arrivals_of(symbol: usize) -> Range<usize>
 }
 
 impl Entry {
-    // Is there such an entry? The key and the symbol are tested by early returns for speed: in one
-    // expression of `&&` a dense file takes 1.8 times as long.
+    // Is there such an entry? The key and the symbol are tested by early returns for speed: tried in one
+    // expression of `&&`, a dense file takes 1.8 times as long, past the aim (docs/DECISIONS.md, 18).
     #[tactic(auto, unfolding(crate::specs::Table::is_entry))]
     fn is_entry(self) -> bool
         ensures { result ≡ is_entry self.key self.symbol self.place }

@@ -1,4 +1,4 @@
-// A question in order: what the engine's functions are asked.
+// What the engine's functions are asked.
 ghost use Rattle.std.specs.Prelude.{◌≡◌, ◌<◌};
 ghost use Rattle.wac.specs.Bytes.{AreBytes};
 ghost use Rattle.wac.specs.Record.{Lawful};
@@ -8,7 +8,7 @@ ghost use Rattle.decision.specs.Question.{Ready};
 use crate::request::Request;
 use wac::Cert;
 
-// An accepted file, its count, and a request that no refusal stops.
+// An accepted file, its count, and a request whose owner and asker are keys and whose minute is not 0.
 #[derive(Clone, Copy)]
 pub struct Inquiry<'a> {
     pub file: &'a [u8],

@@ -155,7 +155,8 @@ fn judge(inquiry: Inquiry<'_>, minutes: &mut [u32], steps: &mut [u32], chain: &m
 }
 
 // The question. Any bytes and any numbers; a refused call leaves every lent place as it was. The lent
-// places are three and no struct, as C lends them: `Judged` says of each what it held and what it holds.
+// places are three and no struct: two of them are shortened for `judge`, and `Judged` says of each what it
+// held and what it holds.
 pub fn ask(
     file: &[u8],
     request: Request,
@@ -189,7 +190,7 @@ pub fn ask(
     Ok(verdict)
 }
 
-// The short form names no rights and asks to open.
+// The short form names no rights and asks to open, so it takes no `Request`, nor do the screen and the list.
 pub fn ask_short(
     file: &[u8],
     owner: u8,
@@ -228,7 +229,8 @@ pub fn may(file: &[u8], owner: u8, asker: u8, at: u32) -> Result<bool, u8>
 }
 
 // The stock list of an owner at a minute, by the short form: a yes or no for each of the 16 keys, or the
-// refusal's number, as the read screen tells it (`stocks_unique`). No From leads from usize to a byte.
+// refusal's number, as the read screen tells it (`stocks_unique`). No From leads from usize to a byte, and
+// a TryFrom would have to be unwrapped: `as`, which is proved to lose nothing.
 pub fn stock(file: &[u8], owner: u8, at: u32) -> Result<[bool; Table::KEYS], u8>
     ensures { Stocks file.now owner at result }
 {
@@ -269,7 +271,8 @@ pub fn refusal_number(why: Refused) -> u8
     }
 }
 
-// The record's number that the refusal returns, and 0 where it returns none.
+// The record's number that the refusal returns, and 0 where it returns none: C's codes and the printed lines
+// have 0 there (`refusal_record`).
 pub fn refusal_record(why: Refused) -> usize
     ensures { result ≡ refusal_record why }
 {

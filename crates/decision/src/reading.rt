@@ -98,7 +98,8 @@ impl<'a> Row<'a> {
     }
 
     // The best reading of a whole right side: one symbol at once. It is apart from `read_from` for speed:
-    // most right sides have one symbol, and are then read with no call.
+    // most right sides have one symbol, and are then read with no call; tried without, questions take 1.6
+    // times as long, past the aim (docs/DECISIONS.md, 18).
     pub fn read_side(&self, side: &RightSide, from: usize, to: usize) -> u32
         ensures { result ≡ reading (question_by self.now.lens 0) (held self.now.lens self.now.table.now) from (symbols_of side.now.cert) to }
     {

@@ -106,8 +106,9 @@ impl<'a> LastSteps<'a> {
         Table::END
     }
 
-    // Writes an entry from `at` on, and gives the next place. A certificate's number is below 128, and no
-    // From leads from usize to u8: `as`, which is proved to lose nothing.
+    // Writes an entry from `at` on, and gives the next place. The chain and the place in it stay two: `Wrote`
+    // says of the whole lent chain what stands from `at` on. A certificate's number is below 128; no From leads
+    // from usize to u8, and a TryFrom would have to be unwrapped: `as`, which is proved to lose nothing.
     #[cycle(expand_entry_expand_subject)]
     pub fn expand_entry(&self, chain: &mut [u8], at: usize, entry: Entry) -> usize
         requires { (steps_at self.now.floor self.now.table.now entry.key entry.symbol entry.place ≤ chain_places) × (at + steps_at self.now.floor self.now.table.now entry.key entry.symbol entry.place ≤ length chain.old) }

@@ -39,7 +39,8 @@ pub fn number_of(why: Refusal) -> u8
     }
 }
 
-// The record's number that the refusal returns, and 0 where it returns none.
+// The record's number that the refusal returns, and 0 where it returns none: C's codes and the printed lines
+// have 0 there (`record_of`).
 pub fn record_of(why: Refusal) -> usize
     ensures { result ≡ record_of why }
 {
