@@ -53,7 +53,8 @@ pub fn wac_check(file: &[u8]) -> u32
     coded(wac::check(file))
 }
 
-// What a view of the file counts, which is what its check finds: the count, or 10 to 15.
+// What a view of the file counts, which is what its check finds: the count, or 10 to 15. A name of its own
+// in boundary.h.
 pub fn wac_count(file: &[u8]) -> u32
     ensures { result ≡ coded (first_of (file_cases file.now) (count_of file.now)) }
 {

@@ -6,6 +6,7 @@ ghost use Rattle.decision.specs.Question.{request_of, shown_as, answered_as};
 ghost use Rattle.boundary.specs.Questions.{
   wide_code,
   verdict_code,
+  answer_code,
   shown_code,
   bits,
   stocked_code,
@@ -60,21 +61,27 @@ fn verdict_code(verdict: Result<Verdict, Refused>) -> u64
     }
 }
 
-// What the read screen shows, as one number. This and `stocked_code` are two and no generic one: each value
-// becomes a number in its own way, and a trait for that would be longer than both.
-fn shown_code(shown: Result<bool, u8>) -> u32
-    ensures { result ≡ shown_code (shown_as shown) }
+// A number, or a refusal's number alone, as one number.
+fn number_code(answer: Result<usize, u8>) -> u32
+    ensures { result ≡ answer_code (λ n. n) (shown_as answer) }
 {
-    match shown {
-        Ok(yes) => code_of(0, usize::from(yes)),
+    match answer {
+        Ok(value) => code_of(0, value),
         Err(number) => code_of(number, 0),
     }
 }
 
+// What the read screen shows, as one number.
+fn shown_code(shown: Result<bool, u8>) -> u32
+    ensures { result ≡ shown_code (shown_as shown) }
+{
+    number_code(shown.map(|yes| usize::from(yes)))
+}
+
 // The sum of 2^k over the keys k that get yes, from the last key to the first. By key and not over the
 // list turned round: the sum so far is said of the keys from `key` on (`bits`), and such a walk names none.
-fn bits_of(list: &[bool; Table::KEYS]) -> usize
-    ensures { result ≡ bits list.now 0 keys }
+fn bits_of(list: [bool; Table::KEYS]) -> usize
+    ensures { result ≡ bits list 0 keys }
 {
     let mut sum = 0;
     for key in (0..Table::KEYS).rev() {
@@ -87,10 +94,7 @@ fn bits_of(list: &[bool; Table::KEYS]) -> usize
 fn stocked_code(list: Result<[bool; Table::KEYS], u8>) -> u32
     ensures { result ≡ stocked_code (shown_as list) }
 {
-    match list {
-        Ok(keys) => code_of(0, bits_of(&keys)),
-        Err(number) => code_of(number, 0),
-    }
+    number_code(list.map(bits_of))
 }
 
 // A number and one long value as one number.
@@ -136,7 +140,7 @@ pub fn decision_ask(
     verdict_code(decision::ask(file, request, minutes, steps, chain))
 }
 
-// `decision::ask_short`: the same for rights 2.
+// `decision::ask_short`: the same for rights 2. A name of its own in boundary.h.
 pub fn decision_short(
     file: &[u8],
     owner: u8,

@@ -1,5 +1,6 @@
 // The functions of `boundary` under their C names, for the archive libboundary.a. Each calls the one
-// of its name and states what that states; boundary.h says them for programs in C.
+// of its name and states what that states; boundary.h says them for programs in C. They stand here once more
+// since an archive is a crate of its own (docs/DECISIONS.md, 36).
 #![tactic(auto)]
 
 ghost use Rattle.std.specs.Prelude.{◌≡◌};

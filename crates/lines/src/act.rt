@@ -10,7 +10,7 @@ use crate::text::Text;
 use decision::Refused;
 use sites::{NoteKind, NoteRefused, Site};
 
-// What became of an act.
+// What became of an act: an enum of its own and no Option, since a note and no note are told in words.
 #[derive(Clone, Copy)]
 pub enum Outcome {
     // The sites show it.
@@ -92,7 +92,7 @@ pub fn act_line(a: Site, b: Site, outcome: Outcome, out: &mut [u8]) -> Result<us
     act_text(&a, &b, outcome).write(out)
 }
 
-// Why two sites were not opened.
+// Why two sites were not opened: what a line is made of, and no answer.
 #[derive(Clone, Copy)]
 pub enum Unopened {
     // The input ends before the acts: 9.

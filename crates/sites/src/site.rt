@@ -43,7 +43,7 @@ pub struct Site {
     // Two tables and no table of pairs: `settle` passes over the minutes alone.
     minutes: [u32; Table::ENTRIES],
     receipted: [u32; Table::ENTRIES],
-    // It has worked since it was opened and since the last rise.
+    // It has worked since it was opened and since the last rise: no flag beside a value, `restful` names it.
     idle: bool,
 }
 
