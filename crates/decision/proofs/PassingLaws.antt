@@ -15,7 +15,7 @@ use Rattle.wac.specs.Limits.{keys, delegate, access, end_place, entries}
 use Rattle.wac.specs.Record.{Lawful}
 use Rattle.wac.specs.File.{count_of, cert_at}
 use Rattle.wac.specs.declared.cert.Cert.{Cert}
-use Rattle.wac.proofs.Tests.{and_both}
+use Rattle.std.proofs.lemmas.Bool.{and_parts}
 use Rattle.rewriting.specs.Weighing.{minutes, steps}
 use Rattle.rewriting.specs.Rewriting.{Rules, Question}
 use Rattle.rewriting.specs.Entries.{Mark}
@@ -42,8 +42,8 @@ asker_entry k s h m = is_entry_lem k s end_place (h, inr (m, refl))
 pub start_other : (Q : Question) (k s a : ℕ) → (k ≡ Q.asker → Mark s → a ≡ Q.keys → ⊥) → start Q k s a ≡ Q.weighing.none
 unfolding start
 start_other Q k s a other = by_test (λ x. x ≡ Q.weighing.none) (eqb k Q.asker && (eqb s 10 || eqb s 11) && eqb a Q.keys)
-    (λ e. (let both = and_both _ _ e in
-    let left = and_both _ _ both.0 in
+    (λ e. (let both = and_parts _ _ e in
+    let left = and_parts _ _ both.0 in
     absurd (other (eqb-true k Q.asker left.0) (marks s left.1) (eqb-true a Q.keys both.1))))
     (λ e. refl)
   where
@@ -171,7 +171,7 @@ module _ {lens : Lens} {old : List ℕ} {c : Cert} {new₀ new : List ℕ} {p : 
     long = tr.long;
     beyond = tr.beyond;
     at_entry = λ k s a t. by_test (λ x. get_or new (number k s a) 0 ≡ x) (eqb c.issuer k && eqb c.left s)
-        (λ e. let both = and_both _ _ e in at k s a (eqb-true c.issuer k both.0) (eqb-true c.left s both.1) t)
+        (λ e. let both = and_parts _ _ e in at k s a (eqb-true c.issuer k both.0) (eqb-true c.left s both.1) t)
         (λ e. tr.rest k s a t (λ x y z. true≢false (sym (both_eqb x y) ∙ e)));
   }
     where

@@ -13,7 +13,7 @@ use Rattle.std.specs.Prelude.{Result, Ok}
 use Rattle.wac.specs.Limits.{keys, entries, chain_places, authorization_kind}
 use Rattle.wac.specs.Bytes.{AreBytes}
 use Rattle.wac.specs.File.{cert_at}
-use Rattle.wac.proofs.Tests.{and_both}
+use Rattle.std.proofs.lemmas.Bool.{and_parts}
 use Rattle.rewriting.specs.Weighing.{minutes, uncounted}
 use Rattle.rewriting.specs.Rewriting.{Rules, Question, Weighty, Decides, delegate}
 use Rattle.rewriting.specs.Entries.{Lawful, Brings}
@@ -47,8 +47,8 @@ use Rattle.decision.proofs.TableLaws.{entry_back, number_back, row_at, held_at, 
 pub rules_weighty : (s : List ℕ) (q : Request) → (q.at ≡ 0 → ⊥) → Weighty minutes (rules_of s q)
 unfolding rules_of usable in_force minutes
 rules_weighty s q some i there live none =
-    let force = (and_both (in_force q.at (cert_at s i)) (cond (eqb (cert_at s i).kind authorization_kind) (includes (cert_at s i).rights q.rights) true) live).0 in
-    let dates = and_both (leb (cert_at s i).not_before q.at) (leb q.at (cert_at s i).not_after) force in
+    let force = (and_parts (in_force q.at (cert_at s i)) (cond (eqb (cert_at s i).kind authorization_kind) (includes (cert_at s i).rights q.rights) true) live).0 in
+    let dates = and_parts (leb (cert_at s i).not_before q.at) (leb q.at (cert_at s i).not_after) force in
     let ends = leb-true q.at (cert_at s i).not_after dates.1 in
     some (omega arith)
 

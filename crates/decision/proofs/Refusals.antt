@@ -12,7 +12,7 @@ use Rattle.wac.specs.Limits.{certificates}
 use Rattle.wac.specs.Answers.{Answer, gives, refuses, Case, ◌of◌if◌, first_of}
 use Rattle.wac.specs.File.{count_of, frame_cases, file_cases, lowest_bad}
 use Rattle.wac.proofs.Cases.{first_none, first_holds, first_fails, first_refused, first_given, gives_not_refuses}
-use Rattle.wac.proofs.Tests.{and_both}
+use Rattle.std.proofs.lemmas.Bool.{and_parts}
 use Rattle.wac.proofs.FileLaws.{frame_accepted}
 use Rattle.decision.specs.Question.{request_cases, ask_cases, settle_cases}
 use Rattle.decision.specs.declared.request.Request.{Request}
@@ -40,8 +40,8 @@ module _ {A : Type 0} {n : ℕ} {vs : List ℕ} where
   unfolding plain?
   plain_proper [] a p e = absurd (gives_not_refuses (sym (first_none a) ∙ e))
   plain_proper (c ∷ cases) a p e =
-      let parts = and_both (leb 10 c.number && ltb (get_or c.values 0 0) certificates) (plain? cases) p in
-      turn c.holds refl (and_both (leb 10 c.number) _ parts.0) (plain_proper cases a parts.1)
+      let parts = and_parts (leb 10 c.number && ltb (get_or c.values 0 0) certificates) (plain? cases) p in
+      turn c.holds refl (and_parts (leb 10 c.number) _ parts.0) (plain_proper cases a parts.1)
     where
       turn : (b : Bool) → c.holds ≡ b → (leb 10 c.number ≡ true) × (ltb (get_or c.values 0 0) certificates ≡ true) →
           (first_of cases a ≡ refuses n vs → Proper n vs) → Proper n vs

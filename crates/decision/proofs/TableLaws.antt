@@ -13,7 +13,7 @@ use lib.Seq.{length-take-le, get_or-take, get_or-drop, ext_get_or, get_or-set_sa
 use Rattle.std.specs.Prelude.{Option, Some, None}
 use Rattle.std.specs.Option.{unwrap_or}
 use Rattle.wac.specs.Limits.{keys, identifiers, access, end_place, named_entries, entries}
-use Rattle.wac.proofs.Tests.{and_both}
+use Rattle.std.proofs.lemmas.Bool.{and_parts}
 use Rattle.wac.proofs.RoundTrip.{length_listed, get_d_listed}
 use Rattle.rewriting.specs.Entries.{Mark, Arrival, Entry}
 use Rattle.rewriting.specs.Passes.{Table}
@@ -29,13 +29,13 @@ use Rattle.decision.specs.declared.lens.Lens.{Lens}
 pub entry_of_lem : (k s a : ℕ) → is_entry k s a ≡ true → Entry keys k s a
 unfolding is_entry
 entry_of_lem k s a e =
-    let both = and_both _ _ e in
+    let both = and_parts _ _ e in
     (ltb-true k keys both.0, turn (ltb s identifiers) refl both.1)
   where
     turn : (b : Bool) → ltb s identifiers ≡ b → cond b (ltb a keys) (leb s access && eqb a end_place) ≡ true → Arrival keys s a
     turn true t h = inl (ltb-true s identifiers t, ltb-true a keys h)
     turn false t h =
-        let both = and_both _ _ h in
+        let both = and_parts _ _ h in
         let low = ltb-false s identifiers t in
         let high = leb-true s access both.0 in
         inr (by_cases (ℕ_discrete s 10) inl (λ n. inr (omega arith)), eqb-true a end_place both.1)

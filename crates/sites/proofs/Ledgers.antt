@@ -14,7 +14,8 @@ use Rattle.wac.specs.Limits.{entries, without_end}
 use Rattle.wac.specs.Answers.{gives, refuses, ◌if◌, first_of}
 use Rattle.wac.specs.File.{count_of, file_cases}
 use Rattle.wac.proofs.Cases.{first_none, first_fails, first_passed, first_given, gives_injective, gives_not_refuses}
-use Rattle.wac.proofs.Tests.{and_both, and_true}
+use Rattle.std.proofs.lemmas.Bool.{and_parts}
+use Rattle.wac.proofs.Tests.{and_true}
 use Rattle.rewriting.specs.Weighing.{minutes}
 use Rattle.rewriting.specs.Entries.{Lawful}
 use Rattle.rewriting.specs.Passes.{repeated}
@@ -78,8 +79,8 @@ module _ (l : List ℕ) (long : entries ≤ length l) (k s a : ℕ) (here : is_e
   -- the same entry by three tests
   same_entry : (x y z : ℕ) → (eqb x k && (eqb y s && eqb z a)) ≡ true → (x ≡ k) × (y ≡ s) × (z ≡ a)
   same_entry x y z e =
-      let one = and_both _ _ e in
-      let two = and_both _ _ one.1 in
+      let one = and_parts _ _ e in
+      let two = and_parts _ _ one.1 in
       (eqb-true x k one.0, eqb-true y s two.0, eqb-true z a two.1)
 
   other_entry : (x y z : ℕ) → (eqb x k && (eqb y s && eqb z a)) ≡ false → k ≡ x → s ≡ y → a ≡ z → ⊥
@@ -292,7 +293,7 @@ module _ {s : List ℕ} {q : Request} {session : ℕ} (word : session ≤ withou
         refused = λ why e. absurd (grind arith);
       })
   follows (Err why) answer at bytes = rw (at, bytes) (
-      let late = and_both _ _ (refused_late answer) in
+      let late = and_parts _ _ (refused_late answer) in
       let kind = eqb-true said.kind receipt_kind late.0 in
       let after = after_late late.1 in
       record {

@@ -13,7 +13,7 @@ use Rattle.wac.specs.Bytes.{AreBytes}
 use Rattle.wac.specs.File.{listed}
 use Rattle.wac.proofs.RecordLaws.{word_read, word_written}
 use Rattle.wac.proofs.RoundTrip.{take_listed}
-use Rattle.wac.proofs.Tests.{and_both}
+use Rattle.std.proofs.lemmas.Bool.{and_parts}
 use Rattle.decision.specs.Table.{is_entry}
 use Rattle.sites.specs.Notes.{note_length, raise_kind, receipt_kind, note_from, note_bytes, formed}
 use Rattle.sites.specs.declared.note.Note.{Note}
@@ -45,9 +45,9 @@ pub record Fields (n : Note) : Type 0 where
 pub formed_fields : (n : Note) → formed n ≡ true → Fields n
 unfolding formed
 formed_fields n ok =
-    let a = and_both _ _ ok in
-    let b = and_both _ _ a.1 in
-    let c = and_both _ _ b.1 in
+    let a = and_parts _ _ ok in
+    let b = and_parts _ _ a.1 in
+    let c = and_parts _ _ b.1 in
     record { kind = a.0; some = λ z. nonzero z b.0; symbol = ltb-true _ _ c.0; entry = c.1 }
   where
     nonzero : n.minute ≡ 0 → not (eqb n.minute 0) ≡ true → ⊥

@@ -11,7 +11,8 @@ use Rattle.std.specs.Prelude.{Option, Some, None, Result, Ok, Err}
 use Rattle.wac.specs.Limits.{keys, entries, delegate, without_end}
 use Rattle.wac.specs.Answers.{gives, first_of}
 use Rattle.wac.proofs.Cases.{first_none, first_passed, gives_injective, gives_not_refuses}
-use Rattle.wac.proofs.Tests.{and_both, all_below_true, all_below_at}
+use Rattle.std.proofs.lemmas.Bool.{and_parts}
+use Rattle.wac.proofs.Tests.{all_below_true, all_below_at}
 use Rattle.rewriting.specs.Weighing.{minutes}
 use Rattle.rewriting.specs.Entries.{Entry}
 use Rattle.decision.specs.Table.{number, key_of, symbol_of, arrival_of}
@@ -31,7 +32,7 @@ module _ (x : Site) where
   pub rest_tables : restful x ≡ true → rules.Rest keys (ledger x)
   unfolding restful
   rest_tables h =
-      let both = and_both _ _ h in
+      let both = and_parts _ _ h in
       record {
         quiet = both.0;
         all = λ k s a e.

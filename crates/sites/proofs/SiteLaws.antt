@@ -16,7 +16,9 @@ use Rattle.wac.specs.Limits.{keys, delegate, access, end_place, entries, without
 use Rattle.wac.specs.Answers.{gives, refuses, ◌if◌, first_of}
 use Rattle.wac.specs.Ranges.{all_below}
 use Rattle.wac.proofs.Cases.{first_none, first_holds, first_fails, first_passed, gives_not_refuses}
-use Rattle.wac.proofs.Tests.{and_true, false_and, and_both, and_false, all_below_true, all_below_false}
+use Rattle.std.proofs.Math.Bool.{and-false}
+use Rattle.std.proofs.lemmas.Bool.{and_left, and_parts}
+use Rattle.wac.proofs.Tests.{and_true, all_below_true, all_below_false}
 use Rattle.wac.proofs.FileLaws.{file_kept}
 use Rattle.rewriting.specs.Weighing.{minutes}
 use Rattle.decision.specs.Table.{is_entry, number, NumberOf}
@@ -57,11 +59,11 @@ module _ (n : Note) where
 -- bytes that say a note in order
 pub note_whole : (b : List ℕ) → note_ok b ≡ true → (length b ≡ note_length) × (formed (note_from b) ≡ true)
 unfolding note_ok
-note_whole b ok = let both = and_both _ _ ok in (eqb-true _ _ both.0, both.1)
+note_whole b ok = let both = and_parts _ _ ok in (eqb-true _ _ both.0, both.1)
 
 pub wrong_length : (b : List ℕ) → (length b ≡ note_length → ⊥) → note_ok b ≡ false
 unfolding note_ok
-wrong_length b n = false_and _ _ (ne_eqb _ _ n)
+wrong_length b n = and_left _ _ (ne_eqb _ _ n)
 
 pub right_length : (b : List ℕ) → length b ≡ note_length → note_ok b ≡ formed (note_from b)
 unfolding note_ok
@@ -86,7 +88,7 @@ module _ (x : Site) (b : List ℕ) (room kind : ℕ) where
           ∙ ap (λ n. first_of ((26 if not (x.live && eqb n.session x.session)) ∷ (28 if eqb n.kind receipt_kind && ltb (minute_at x (entry_of n)) n.minute) ∷ []) kind) (sym says)
 
       pub not_live : x.live ≡ false → first_of (note_cases x b room) kind ≡ refuses 26 []
-      not_live e = a_note ∙ first_holds _ _ _ (ap not (false_and _ _ e))
+      not_live e = a_note ∙ first_holds _ _ _ (ap not (and_left _ _ e))
 
       module _ (live : x.live ≡ true) where
         pub other_session : (said.session ≡ x.session → ⊥) → first_of (note_cases x b room) kind ≡ refuses 26 []
@@ -97,7 +99,7 @@ module _ (x : Site) (b : List ℕ) (room kind : ℕ) where
           this_session = a_note ∙ first_fails _ _ _ (ap not (and_true _ _ live ∙ eq-eqb _ _ same))
 
           pub taken_raise : said.kind ≡ raise_kind → first_of (note_cases x b room) kind ≡ gives kind
-          taken_raise e = this_session ∙ first_fails _ _ _ (false_and _ _ (ap (λ n. eqb n receipt_kind) e)) ∙ first_none _
+          taken_raise e = this_session ∙ first_fails _ _ _ (and_left _ _ (ap (λ n. eqb n receipt_kind) e)) ∙ first_none _
 
           module _ (e : ℕ) (at : e ≡ entry_of said) where
             pub later_minute : said.kind ≡ receipt_kind → minute_at x e < said.minute → first_of (note_cases x b room) kind ≡ refuses 28 []
@@ -106,7 +108,7 @@ module _ (x : Site) (b : List ℕ) (room kind : ℕ) where
             pub taken_receipt : said.minute ≤ minute_at x e → first_of (note_cases x b room) kind ≡ gives kind
             taken_receipt l =
                 let low = ap (λ i. ltb (minute_at x i) said.minute) (sym at) ∙ le-ltb _ _ l in
-                this_session ∙ first_fails _ _ _ (ap (λ t. eqb said.kind receipt_kind && t) low ∙ and_false (eqb said.kind receipt_kind)) ∙ first_none _
+                this_session ∙ first_fails _ _ _ (ap (λ t. eqb said.kind receipt_kind && t) low ∙ and-false (eqb said.kind receipt_kind)) ∙ first_none _
 
   -- a note that is taken has room for its receipt, and is in order
   pub taken_whole : {n : ℕ} → first_of (note_cases x b room) kind ≡ gives n → (note_length ≤ room) × (length b ≡ note_length) × (formed (note_from b) ≡ true)
@@ -193,7 +195,7 @@ module _ (x : Site) where
   -- a site that has to work does not rest, and one that has worked rests exactly if no entry is next
   pub not_idle : x.idle ≡ false → restful x ≡ false
   unfolding restful
-  not_idle e = false_and _ _ e
+  not_idle e = and_left _ _ e
 
   pub idle_rest : x.idle ≡ true → is_none (next_of x 0) ≡ restful x
   unfolding restful

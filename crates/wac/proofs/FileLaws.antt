@@ -14,7 +14,8 @@ use Rattle.wac.specs.Answers.{gives, refuses, first_of}
 use Rattle.wac.specs.Ranges.{record_ok}
 use Rattle.wac.specs.File.{frame_cases, file_cases, count_of, place_of, record_at, cert_at, lowest_bad, Framed, LawfulFile}
 use Rattle.wac.proofs.Cases.{first_none, first_holds, first_fails, first_passed, first_refused, first_given, first_both, gives_injective}
-use Rattle.wac.proofs.Tests.{not_not, lowest_none, lowest_passed}
+use Rattle.std.proofs.lemmas.Bool.{not-false}
+use Rattle.wac.proofs.Tests.{lowest_none, lowest_passed}
 use Rattle.wac.proofs.RecordLaws.{drop_bytes, bytes_dated, kept_lawful, lawful_kept}
 
 module _ (s : List ℕ) where
@@ -28,10 +29,10 @@ module _ (s : List ℕ) where
       let d = first_passed _ _ _ c.1 in
       let f = first_passed _ _ _ d.1 in (
         record {
-          mark = not_not _ b.0;
-          versioned = eqb-true _ _ (not_not _ c.0);
+          mark = not-false _ b.0;
+          versioned = eqb-true _ _ (not-false _ c.0);
           few = ltb-false _ _ d.0;
-          sized = eqb-true _ _ (not_not _ f.0);
+          sized = eqb-true _ _ (not-false _ f.0);
         },
         gives_injective (sym (first_none _) ∙ f.1),
       )
@@ -70,7 +71,7 @@ module _ (s : List ℕ) where
       let last = first_passed _ _ _ both.1 in (
         (frame_accepted both.0).0,
         gives_injective (sym (first_none _) ∙ last.1),
-        λ i l. not_not _ (lowest_passed (count_of s) _ (ltb-false _ _ last.0) i l),
+        λ i l. not-false _ (lowest_passed (count_of s) _ (ltb-false _ _ last.0) i l),
       )
 
   -- a frame in order is accepted with its count

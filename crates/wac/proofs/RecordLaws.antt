@@ -17,7 +17,9 @@ use Rattle.wac.specs.Ranges.{a_key, an_identifier, ◌to◌, names, authorizatio
 use Rattle.wac.specs.Record.{word_at, cert_from, bytes_of, IsName, IsAuthorization, IdOk, Dated, Lawful}
 use Rattle.wac.specs.declared.record.Range.{Range}
 use Rattle.wac.specs.declared.cert.Cert.{Cert}
-use Rattle.wac.proofs.Tests.{and_both, and_true, and_false, all_below_at, all_below_same}
+use Rattle.std.proofs.Math.Bool.{and-false}
+use Rattle.std.proofs.lemmas.Bool.{and_parts}
+use Rattle.wac.proofs.Tests.{and_true, all_below_at, all_below_same}
 
 -- the bytes from a place on are bytes
 pub drop_bytes : (s : List ℕ) (at : ℕ) → AreBytes s → AreBytes (drop at s)
@@ -49,7 +51,7 @@ cert_where s at = simp (get_or-drop, add-zero, add_assoc)
 
 -- a number in a range
 in_range_lem : (r : Range) (b : ℕ) → in_range r b ≡ true → (r.least ≤ b) × (b ≤ r.greatest)
-in_range_lem r b e = let both = and_both _ _ e in (leb-true _ _ both.0, leb-true _ _ both.1)
+in_range_lem r b e = let both = and_parts _ _ e in (leb-true _ _ both.0, leb-true _ _ both.1)
 
 range_in : (r : Range) (b : ℕ) → (r.least ≤ b) × (b ≤ r.greatest) → in_range r b ≡ true
 range_in r b h = and_true _ _ (le-leb _ _ h.0) ∙ le-leb _ _ h.1
@@ -73,7 +75,7 @@ module _ (s : List ℕ) where
   -- byte i is no spare one: its range counts
   held : (i : ℕ) → (i < 5 + get_or s 4 0) ⊎ (8 ≤ i) → byte_ok s i ≡ in_range (range_at (row_of (get_or s 0 0)) i) (get_or s i 0)
   unfolding byte_ok spare
-  held i (inl h) = rw (lt-leb (5 + get_or s 4 0) i h, and_false)
+  held i (inl h) = rw (lt-leb (5 + get_or s 4 0) i h, and-false)
   held i (inr h) = rw (le-ltb i 8 h)
 
   -- byte i is a spare identifier byte

@@ -12,7 +12,7 @@ use Rattle.wac.specs.Bytes.{AreBytes}
 use Rattle.wac.specs.Record.{cert_from, bytes_of, Lawful}
 use Rattle.wac.specs.File.{is_wac, count_of, cert_at, listed, certs_of, records_of, file_of, AllLawful, Framed, LawfulFile}
 use Rattle.wac.specs.declared.cert.Cert.{Cert}
-use Rattle.wac.proofs.Tests.{and_both}
+use Rattle.std.proofs.lemmas.Bool.{and_parts}
 use Rattle.wac.proofs.RecordLaws.{drop_bytes, read_back, word_written}
 
 module _ {A : Type 0} where
@@ -76,8 +76,8 @@ certs_after s = listed_same (count_of s) _ _ (λ i. ap cert_from (sym (drop-drop
 pub file_written_back : (s : List ℕ) → AreBytes s → Framed s → file_of (certs_of s) ≡ s
 unfolding file_of is_wac listed
 file_written_back s bytes framed =
-    let marked = and_both _ _ framed.mark in
-    let marked' = and_both _ _ marked.1 in
+    let marked = and_parts _ _ framed.mark in
+    let marked' = and_parts _ _ marked.1 in
     let w : get_or s 0 0 ≡ 87 = eqb-true _ _ marked.0 in
     let a : get_or s 1 0 ≡ 65 = eqb-true _ _ marked'.0 in
     let c : get_or s 2 0 ≡ 67 = eqb-true _ _ marked'.1 in

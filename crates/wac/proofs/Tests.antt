@@ -1,30 +1,18 @@
 -- Laws of the tests and searches that the definitions use.
-use mathlib.Core.Path.{◌≡◌, refl, sym, ap}
-use mathlib.Core.Bool.{Bool, true, false, cond, ◌&&◌, not, true≢false}
+use mathlib.Core.Path.{◌≡◌, refl, ap}
+use mathlib.Core.Bool.{Bool, true, false, cond, ◌&&◌}
 use mathlib.Core.Logic.{⊎_elim}
 use Prim.Native.Nat.{ℕ, zero, suc, ◌<◌, ◌≤◌}
 use native.Mathlib.Nat.{le_of_suc-le-suc, eq-or-lt_of_le, not-suc-le-zero}
 use native.Mathlib.Omega.{arith}
+use Rattle.std.proofs.lemmas.Bool.{and_parts}
+use Rattle.std.proofs.Math.Bool.{and-false}
 use Rattle.wac.specs.Ranges.{all_below}
 use Rattle.wac.specs.File.{lowest}
 
 -- a conjunction whose first part holds is its second part
 pub and_true : (a b : Bool) → a ≡ true → (a && b) ≡ b
 and_true a b e = rw e
-
--- a conjunction whose first part fails fails
-pub false_and : (a b : Bool) → a ≡ false → (a && b) ≡ false
-false_and a b e = rw e
-
--- both parts of a conjunction that holds
-pub and_both : (a b : Bool) → (a && b) ≡ true → (a ≡ true) × (b ≡ true)
-and_both true b e = (refl, e)
-and_both false b e = absurd (true≢false (sym e))
-
--- a conjunction whose second part fails fails
-pub and_false : (b : Bool) → (b && false) ≡ false
-and_false true = refl
-and_false false = refl
 
 -- a test that holds of each number below n
 pub all_below_true : (n : ℕ) (p : ℕ → Bool) → ((k : ℕ) → k < n → p k ≡ true) → all_below n p ≡ true
@@ -37,7 +25,7 @@ pub all_below_at : (n : ℕ) (p : ℕ → Bool) → all_below n p ≡ true → (
 unfolding all_below
 all_below_at zero p e k l = absurd (not-suc-le-zero l)
 all_below_at (suc n) p e k l =
-    let both = and_both _ _ e in
+    let both = and_parts _ _ e in
     ⊎_elim (λ (same : k ≡ n). rw same both.1) (λ l'. all_below_at n p both.0 k l') (eq-or-lt_of_le (le_of_suc-le-suc l))
 
 -- a test that fails at a number below n
@@ -45,7 +33,7 @@ pub all_below_false : (n : ℕ) (p : ℕ → Bool) (k : ℕ) → k < n → p k �
 unfolding all_below
 all_below_false zero p k l h = absurd (not-suc-le-zero l)
 all_below_false (suc n) p k l h =
-    ⊎_elim (λ (e : k ≡ n). rw (← e, h) (and_false (all_below k p)))
+    ⊎_elim (λ (e : k ≡ n). rw (← e, h) (and-false (all_below k p)))
     (λ l'. rw (all_below_false n p k l' h))
     (eq-or-lt_of_le (le_of_suc-le-suc l))
 
@@ -80,11 +68,6 @@ lowest_most (suc n) p = turn (p zero) (lowest_most n (λ k. p (suc k)))
     turn : (b : Bool) {m : ℕ} → m ≤ n → cond b zero (suc m) ≤ suc n
     turn true l = omega arith
     turn false l = omega arith
-
--- a test whose negation fails holds
-pub not_not : (b : Bool) → not b ≡ false → b ≡ true
-not_not true e = refl
-not_not false e = absurd (true≢false e)
 
 -- where the lowest number that passes is n or above, none below n passes
 pub lowest_passed : (n : ℕ) (p : ℕ → Bool) → n ≤ lowest n p → (k : ℕ) → k < n → p k ≡ false

@@ -16,7 +16,7 @@ use Rattle.wac.specs.declared.refusal.Refusal.{Refusal}
 use Rattle.wac.specs.declared.cert.Cert.{Cert}
 use Rattle.wac.specs.declared.view.View.{View}
 use Rattle.wac.proofs.Cases.{first_none, first_holds, first_fails, first_passed, first_refused, first_given, first_both, gives_injective}
-use Rattle.wac.proofs.Tests.{not_not}
+use Rattle.std.proofs.lemmas.Bool.{not-false}
 use Rattle.wac.proofs.FileLaws.{frame_accepted, framed_accepted, file_kept}
 use Rattle.wac.proofs.RecordLaws.{drop_bytes, bytes_dated, kept_lawful}
 
@@ -42,7 +42,7 @@ module _ (s : List ℕ) (n : ℕ) where
       let number = first_passed _ _ _ both.1 in
       let kept = first_passed _ _ _ number.1 in
       subst Lawful (gives_injective (sym (first_none _) ∙ kept.1))
-      (kept_lawful (record_at s n) (bytes_dated (record_at s n) (drop_bytes s (place_of n) bytes)) (not_not _ kept.0))
+      (kept_lawful (record_at s n) (bytes_dated (record_at s n) (drop_bytes s (place_of n) bytes)) (not-false _ kept.0))
 
   -- in an accepted file each record below the count is read
   pub alone_below : {k : ℕ} → first_of (file_cases s) (count_of s) ≡ gives k → n < count_of s → first_of (alone_cases s n) (cert_at s n) ≡ gives (cert_at s n)

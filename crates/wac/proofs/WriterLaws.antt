@@ -15,7 +15,7 @@ use Rattle.wac.specs.File.{count_of, file_cases}
 use Rattle.wac.specs.Writer.{cert_cases, append_cases}
 use Rattle.wac.specs.declared.cert.Cert.{Cert}
 use Rattle.wac.proofs.Cases.{first_none, first_holds, first_fails, first_passed, first_refused, first_given, first_both, gives_injective}
-use Rattle.wac.proofs.Tests.{not_not}
+use Rattle.std.proofs.lemmas.Bool.{not-false}
 use Rattle.wac.proofs.FileLaws.{file_kept}
 
 module _ (b : List ℕ) (used : ℕ) (c : Cert) where
@@ -68,7 +68,7 @@ module _ (b : List ℕ) (used : ℕ) (c : Cert) where
       let left : record_bytes ≤ length b - used = ltb-false _ _ room.0 in (
         record {
           accepted = both.0;
-          kept = not_not _ against.0;
+          kept = not-false _ against.0;
           count = same;
           not_full = omega arith;
           long = long;
