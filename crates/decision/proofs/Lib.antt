@@ -1,5 +1,6 @@
 -- The laws of the decision, beside the proofs of its functions.
 pub mod Choices
+pub mod LensLaws
 pub mod RulesLaws
 pub mod FetchLaws
 pub mod TableLaws

@@ -40,6 +40,7 @@ impl Lens {
     }
 
     // The better of two weights: the later minute, the fewer steps.
+    #[tactic(auto, using(crate::proofs::LensLaws::later_better))]
     pub fn better(self, x: u32, y: u32) -> u32
         ensures { result ≡ (weighing_of self).best x y }
     {

@@ -24,6 +24,9 @@ use wac::Table;
 pub struct Line;
 
 impl Line {
+    // How many bytes of a question stand before the file.
+    pub const REQUEST: usize = 7;
+
     // As many lent bytes as any line fits.
     pub const ROOM: usize = 1024;
 
@@ -96,7 +99,7 @@ pub fn question_line(question: &[u8], out: &mut [u8]) -> Result<usize, NoRoom>
     if out.len() < Line::ROOM {
         return Err(NoRoom);
     }
-    let [owner, asker, rights, t0, t1, t2, t3, file @ ..] = question else {
+    let [owner, asker, rights, t0, t1, t2, t3, ..] = question else {
         return Ok(Text::line(b"REFUSED", &[Line::CUT_SHORT, 0]).put(out));
     };
     let request = Request {
@@ -105,5 +108,5 @@ pub fn question_line(question: &[u8], out: &mut [u8]) -> Result<usize, NoRoom>
         rights: *rights,
         at: wac::word_of(*t0, *t1, *t2, *t3),
     };
-    Ok(put_asked(out, file, request))
+    Ok(put_asked(out, &question[Line::REQUEST..], request))
 }

@@ -29,8 +29,9 @@ use Rattle.decision.specs.declared.lens.Lens.TheVariants.{Minutes}
 use Rattle.decision.specs.declared.question.Refused.{Refused}
 use Rattle.decision.proofs.PassingLaws.{started}
 use Rattle.sites.specs.Notes.{note_length, raise_kind, receipt_kind, CodesKind, note_from, formed, note_ok}
-use Rattle.sites.specs.Site.{start_of, minute_at, receipted_at, entry_of, note_cases, DueAt, NextDue, waiting, next_of, send_cases, restful}
+use Rattle.sites.specs.Site.{start_of, minute_at, receipted_at, entry_of, note_cases, DueAt, NextDue, waiting, next_of, send_cases, Sends, restful}
 use Rattle.sites.specs.declared.note.Note.{Note}
+use Rattle.sites.specs.declared.site.NoteRefused.TheVariants.{Room}
 use Rattle.sites.specs.declared.site.Site.{Site}
 use Rattle.sites.specs.declared.note.NoteKind.{NoteKind}
 use Rattle.sites.specs.declared.note.NoteKind.TheVariants.{Raise, Receipt}
@@ -144,6 +145,18 @@ settle_stays why (settled case N held e) f = absurd (gives_not_refuses (sym e �
 
 -- the next entry that waits
 module _ (x : Site) where
+  -- there is one of them, or none
+  next_unique : {from : ℕ} (e d : ℕ) → e < entries → d < entries → NextDue x from e → NextDue x from d → e ≡ d
+  next_unique e d low low' next next' = turn (ltb e d) refl (ltb d e) refl
+    where
+      turn : (t : Bool) → ltb e d ≡ t → (t' : Bool) → ltb d e ≡ t' → e ≡ d
+      turn true h t' h' = let due = next.due low in absurd (next'.before e due.0 (ltb-true _ _ h) low due.1)
+      turn false h true h' = let due = next'.due low' in absurd (next.before d due.0 (ltb-true _ _ h') low' due.1)
+      turn false h false h' = omega (arith, ltb-false e d h, ltb-false d e h')
+
+  not_none : {from : ℕ} (e d : ℕ) → e < entries → entries ≤ d → NextDue x from e → NextDue x from d → ⊥
+  not_none e d low high next next' = let due = next.due low in next'.before e due.0 (omega arith) low due.1
+
   -- an entry that does not wait is passed over
   pass_over : {from e : ℕ} → (DueAt x from → ⊥) → NextDue x (from + 1) e → NextDue x from e
   pass_over {from} idle next = record {
@@ -175,9 +188,28 @@ module _ (x : Site) where
   pub next_known : (from : ℕ) (o : Option ℕ) → next_of x from ≡ o → Known from o
   next_known from o e = subst (Known from) e (waiting_known (entries - from) from refl)
 
+  -- and the lowest entry that waits is next
+  pub next_some : {from e : ℕ} → e < entries → NextDue x from e → next_of x from ≡ Some e
+  next_some {from} {e} low next = turn (next_of x from) (next_known from _ refl)
+    where
+      turn : (o : Option ℕ) → Known from o → o ≡ Some e
+      turn (Some d) known = ap Some (next_unique d e known.0 low known.1 next)
+      turn None known = absurd (not_none e entries low (le_refl _) next known)
+
+  pub next_none : {from e : ℕ} → entries ≤ e → NextDue x from e → next_of x from ≡ None
+  next_none {from} {e} high next = turn (next_of x from) (next_known from _ refl)
+    where
+      turn : (o : Option ℕ) → Known from o → o ≡ None
+      turn (Some d) known = absurd (not_none d e known.0 high known.1 next)
+      turn None known = refl
+
   -- and with room it is given
   pub send_given : (from : ℕ) (l : List ℕ) {o : Option ℕ} → note_length ≤ length l → next_of x from ≡ o → gives o ≡ first_of (send_cases (length l)) (next_of x from)
   send_given from l room next = ap gives (sym next) ∙ sym (first_fails _ _ _ (le-ltb _ _ room) ∙ first_none _)
+
+  -- under 12 lent bytes sending is refused, and they stay
+  pub send_short : {from : ℕ} {l : List ℕ} → length l < note_length → Sends x from l (Err Room) l
+  send_short short = record { answer = sym (first_holds _ _ _ (lt-ltb _ _ short)); bytes = refl }
 
   -- an entry that waits is next, one that does not is passed over, and after the last there is none
   pub next_here : (from : ℕ) → from < entries → DueAt x from → next_of x from ≡ Some from

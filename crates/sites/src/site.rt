@@ -322,6 +322,7 @@ impl Site {
 
     // The next note to send, from a given entry number on, is written to the first 12 lent bytes; the
     // one refusal is `Room`.
+    #[tactic(auto, using(crate::proofs::SiteLaws::send_short))]
     pub fn next(&self, from: usize, bytes: &mut [u8]) -> Result<Option<usize>, NoteRefused>
         ensures { Sends self.now from bytes.old result bytes.new }
     {

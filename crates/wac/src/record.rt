@@ -68,23 +68,23 @@ const NO_RIGHTS: Range = Range {
 // How many bytes of a record the table permits numbers for; the dates after them may be any.
 const RANGED: usize = 10;
 
-// The permitted numbers of each byte of a name certificate.
-const NAMES: [Range; RANGED] = [
-    NAME, KEY, IDENTIFIER, KEY, NUMBER, IDENTIFIER, IDENTIFIER, IDENTIFIER, NO_MARK, NO_RIGHTS,
-];
-
-// The permitted numbers of each byte of an authorization.
-const AUTHORIZATIONS: [Range; RANGED] = [
-    AUTHORIZATION,
-    KEY,
-    DELEGATE,
-    KEY,
-    NUMBER,
-    IDENTIFIER,
-    IDENTIFIER,
-    IDENTIFIER,
-    MARK,
-    RIGHTS,
+// The permitted numbers of each byte: a row for names, a row for authorizations.
+const RANGES: [[Range; RANGED]; 2] = [
+    [
+        NAME, KEY, IDENTIFIER, KEY, NUMBER, IDENTIFIER, IDENTIFIER, IDENTIFIER, NO_MARK, NO_RIGHTS,
+    ],
+    [
+        AUTHORIZATION,
+        KEY,
+        DELEGATE,
+        KEY,
+        NUMBER,
+        IDENTIFIER,
+        IDENTIFIER,
+        IDENTIFIER,
+        MARK,
+        RIGHTS,
+    ],
 ];
 
 // The byte that holds the subject's number of identifiers, and the three that hold them.
@@ -101,9 +101,9 @@ fn range_at(kind: u8, i: usize) -> Range
     ensures { result ≡ range_at (row_of kind) i }
 {
     if kind == Table::AUTHORIZATION as u8 {
-        AUTHORIZATIONS[i]
+        RANGES[1][i]
     } else {
-        NAMES[i]
+        RANGES[0][i]
     }
 }
 

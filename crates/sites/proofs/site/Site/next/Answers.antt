@@ -1,19 +1,17 @@
 -- `next` meets its contract: the note of the lowest entry that is due.
 use mathlib.Core.Path.{refl, sym, ap, ◌∙◌}
-use borrow.Author.Tests.{lt-ltb}
 use lib.Seq.{sets}
 use Rattle.std.specs.Prelude.{Some}
 use Rattle.std.proofs.lemmas.Result.{err_from_is_err_and}
-use Rattle.wac.proofs.Cases.{first_holds}
 use Rattle.sites.specs.Notes.{note_bytes}
-use Rattle.sites.proofs.SiteLaws.{next_known, send_given}
+use Rattle.sites.proofs.SiteLaws.{next_known, send_given, send_short}
 use Rattle.sites.proofs.site.Site.next.Goals as goal
 
 pub returns-in_err-room_for_note : goal.returns-in_err-room_for_note
 returns-in_err-room_for_note c =
     let p = err_from_is_err_and c.from_residual.result c.from_residual.ensures.1 in
     let short = c.in_err-room_for_note.ensures in
-    rw (p.1, p.2, short.0) (record { answer = sym (first_holds _ _ _ (lt-ltb _ _ short.1)); bytes = refl })
+    rw (p.1, p.2, short.0) (send_short _ short.1)
 
 pub raise_of-requires : goal.raise_of-requires
 raise_of-requires c = (next_known _ _ (Some c.in-Some.entry) (sym c.in-Some.ensures)).0

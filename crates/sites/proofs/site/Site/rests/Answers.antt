@@ -2,6 +2,7 @@
 use mathlib.Core.Bool.{Bool, true, false, not}
 use mathlib.Core.Path.{◌≡◌, refl, sym, ap, ◌∙◌}
 use Prim.Native.Nat.{ℕ}
+use native.Mathlib.Omega.{arith}
 use Rattle.std.specs.Prelude.{Option, Some, None, is_some, is_none}
 use Rattle.sites.proofs.SiteLaws.{not_idle, idle_rest}
 use Rattle.sites.proofs.site.Site.rests.Goals as goal
@@ -14,7 +15,9 @@ none_told None true told = refl
 none_told None false told = absurd (cc)
 
 pub returns-then-self : goal.returns-then-self
-returns-then-self c = none_told _ _ c.is_none.ensures ∙ ap is_none c.next_due.ensures ∙ idle_rest _ c.if-self.true
+returns-then-self c =
+    let rests = none_told _ _ c.is_none.ensures ∙ ap is_none c.next_due.ensures ∙ idle_rest _ c.if-self.true in
+    grind arith
 
 pub returns-else-self : goal.returns-else-self
 returns-else-self c = c.if-self.false ∙ sym (not_idle _ c.if-self.false)
