@@ -192,6 +192,10 @@ shown_refused (Shows.refused n vs case e) = (vs, cc)
 shown_refused (Shows.yes case ch leads e) = absurd (gives_not_refuses (sym e))
 shown_refused (Shows.no case none e) = absurd (gives_not_refuses (sym e))
 
+-- what is shown of a key is shown under any number that is the same
+pub shows_for : {s : List ℕ} {owner at v : ℕ} (k : ℕ) {a : Answer Bool} → v ≡ k → Shows s (request_of owner v 2 at) a → Shows s (request_of owner k 2 at) a
+shows_for {s} {owner} {at} k {a} e shown = subst (λ x. Shows s (request_of owner x 2 at) a) e shown
+
 -- a refusal is the same for every asker that is a key
 pub asker_alike : (s : List ℕ) (owner asker rights at : ℕ) → asker < keys →
     first_of (file_cases s ++ request_cases (request_of owner asker rights at)) (count_of s) ≡ first_of (file_cases s ++ request_cases (request_of owner 0 rights at)) (count_of s)

@@ -182,6 +182,10 @@ reads_snoc : {Q : Question} {R : Rules} {k p a s : ℕ} {w c d : List ℕ} → R
 reads_snoc {d = d} stays b = rw (← append-nil d) (goes b stays)
 reads_snoc {d = d} (goes {c = c} {d = e} f r) b = rw (append_assoc c e d) (goes f (reads_snoc r b))
 
+-- what is written after a number is written after any that is the same
+pub written_after : {P : List ℕ → Type 0} {at n v i : ℕ} {ch' : List ℕ} {r : ℕ} (place : ℕ) (ch : List ℕ) → v ≡ i → Wrote P at n (set ch place v) ch' r → Wrote P at n (set ch place i) ch' r
+written_after {P} {at} {n} {ch' = ch'} {r} place ch e w = subst (λ x. Wrote P at n (set ch place x) ch' r) e w
+
 -- an entry's own certificate, and then what its subject reads
 pub entry_own : {s : List ℕ} {q : Request} {floor : ℕ} {l : List ℕ} {k x a i : ℕ} {c : Cert} {at : ℕ} {ch ch' : List ℕ} {r : ℕ} →
     Bringing s q floor l k x a i → c ≡ cert_at s i →

@@ -240,3 +240,14 @@ module _ (x : Site) where
       turn : (o : Option ℕ) → Known 0 o → is_none o ≡ all_below entries (λ d. leb (minute_at x d) (receipted_at x d))
       turn (Some e) known = sym (all_below_false entries _ e known.0 (lt-leb _ _ (known.1.due known.0).1))
       turn None known = sym (all_below_true entries _ (λ d l. told d _ refl (known.before d (omega arith) l l)))
+
+-- a note that is taken has room for its receipt, and is in order
+pub taken_room : (x : Site) (b : List ℕ) {room : ℕ} {n : Note} → (n ≡ note_from b) × (first_of (note_cases x b room) n.kind ≡ gives n.kind) → note_length ≤ room
+taken_room x b {room} {n} both = (taken_whole x b room n.kind both.1).0
+
+pub taken_formed : (x : Site) (b : List ℕ) (room : ℕ) {n : Note} → (n ≡ note_from b) × (first_of (note_cases x b room) n.kind ≡ gives n.kind) → formed n ≡ true
+taken_formed x b room {n} both = ap formed both.0 ∙ (taken_whole x b room n.kind both.1).2
+
+-- a note that is read is in order
+pub note_formed : (b : List ℕ) {n : Note} → n ≡ note_from b → note_ok b ≡ true → formed n ≡ true
+note_formed b {n} e ok = ap formed e ∙ (note_whole b ok).1

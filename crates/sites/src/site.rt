@@ -264,6 +264,7 @@ impl Site {
 
     // Takes a note that was brought to the site. The receipt of a raise is written to the first 12 lent
     // bytes.
+    #[tactic(auto, using(crate::proofs::SiteLaws::taken_room, crate::proofs::SiteLaws::taken_formed, crate::proofs::SiteLaws::note_formed))]
     pub fn take(self, bytes: &[u8], receipt: &mut [u8]) -> Taking
         ensures { Takes self bytes.now receipt.old result receipt.new }
     {

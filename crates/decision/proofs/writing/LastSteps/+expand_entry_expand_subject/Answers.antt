@@ -1,6 +1,6 @@
 -- `expand_entry` and `expand_subject` meet their contracts: a certificate brings the entry about, and its subject's symbols are written in turn.
 use native.Mathlib.Omega.{arith}
-use Rattle.decision.proofs.WritingLaws.{bringing_below, bringing_small, entry_none, entry_own, part_none, part_more, part_all}
+use Rattle.decision.proofs.WritingLaws.{bringing_below, bringing_small, entry_none, entry_own, written_after, part_none, part_more, part_all}
 use Rattle.decision.proofs.writing.LastSteps.+expand_entry_expand_subject.Goals as goal
 
 pub expand_entry-returns-then-steps_at-eq0 : goal.expand_entry-returns-then-steps_at-eq0
@@ -13,7 +13,9 @@ pub expand_entry-overflow_cast-chain : goal.expand_entry-overflow_cast-chain
 expand_entry-overflow_cast-chain t c = omega (arith, bringing_small c.find_cert-i.ensures c.args.self.now.inquiry.ready.accepted)
 
 pub expand_entry-returns : goal.expand_entry-returns
-expand_entry-returns t c = entry_own c.find_cert-i.ensures c.cert-cert.ensures.same c.expand_subject.ensures
+expand_entry-returns t c =
+    let low = bringing_small c.find_cert-i.ensures c.args.self.now.inquiry.ready.accepted in
+    entry_own c.find_cert-i.ensures c.cert-cert.ensures.same (written_after _ _ (omega (arith, low)) c.expand_subject.ensures)
 
 pub expand_subject-loop-j-init : goal.expand_subject-loop-j-init
 expand_subject-loop-j-init t c = rw c.from-from.ensures part_none
